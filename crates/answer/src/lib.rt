@@ -1,0 +1,83 @@
+// What every call shares: the answer it hands back, the request it is asked, and a lent list that is cleared.
+ghost use mathlib.Core.Path.{_≡_};
+ghost use lib.ListN.{length};
+ghost use Rattle.answer.specs.Answers.{refused, counted, ruled, zeros};
+
+// How many fields a request has: subject, resource, action.
+pub const FIELDS: usize = 3;
+
+// A refusal's number and place; or number 0 and place 0, with the decision and the count.
+#[repr(C)]
+pub struct Answer {
+    pub number: u8,
+    pub decision: u8,
+    pub place: usize,
+    pub count: usize,
+}
+
+impl Answer {
+    // The blank answer: nothing refused, nothing to show.
+    pub fn blank() -> Self
+        ensures { λ r. ⌜ r ≡ refused 0 0 ⌝ }
+    {
+        Self {
+            number: 0,
+            decision: 0,
+            place: 0,
+            count: 0,
+        }
+    }
+
+    // A refusal.
+    pub fn refused(number: u8, place: usize) -> Self
+        ensures { λ r. ⌜ r ≡ refused number place ⌝ }
+    {
+        Self {
+            number,
+            decision: 0,
+            place,
+            count: 0,
+        }
+    }
+
+    // The answer of a call that gives a count and no decision.
+    pub fn counted(count: usize) -> Self
+        ensures { λ r. ⌜ r ≡ counted count ⌝ }
+    {
+        Self {
+            number: 0,
+            decision: 0,
+            place: 0,
+            count,
+        }
+    }
+
+    // The answer of a ruling.
+    pub fn ruled(decision: u8, count: usize) -> Self
+        ensures { λ r. ⌜ r ≡ ruled decision count ⌝ }
+    {
+        Self {
+            number: 0,
+            decision,
+            place: 0,
+            count,
+        }
+    }
+}
+
+// One value for each field, in field order.
+pub struct Request {
+    pub values: [u16; FIELDS],
+}
+
+// Zeros throughout a lent list or a lent diagram.
+pub fn clear(list: &mut [u16])
+    ensures { λ _. ⌜ now (list .exit) ≡ zeros (length (now (list .entry))) ⌝ }
+{
+    let n = list.len();
+    let mut i = 0;
+    while i < n {
+        list[i] = 0;
+        i += 1;
+    }
+}
