@@ -1,6 +1,5 @@
-use answer::Answer;
+// Tables of rules: their bytes, and reading them.
+pub mod layout;
+pub mod reading;
 
-// A stand-in.
-pub fn read(table: &[u8]) -> Answer {
-    Answer::counted(table.len())
-}
+pub use reading::read;

@@ -1,0 +1,65 @@
+-- Reading in one pass: the ends of the open nodes, one for each level, give each node's parent by climbing from the node before it.
+-- Assumes nothing.
+use mathlib.Core.Path.{_≡_, refl, sym, ap, _∙_}
+use mathlib.Core.Bool.{cond}
+use mathlib.Core.Logic.{⊎-elim}
+use mathlib.Core.List.{List}
+use Prim.Native.Nat.{ℕ, zero, suc, _+_, _-_, _≤_, _<_}
+use native.Mathlib.Nat.{eq-zero-or-pos}
+use native.Mathlib.Omega.{arith}
+use borrow.Author.Tests.{lt-ltb, le-ltb}
+use lib.ListN.{length, getD, set, length-set}
+use lib.Seq.{getD-set-same, getD-set-other}
+use Rattle.table.specs.Layout.{count, span}
+use Rattle.table.specs.Tree.{endOf, latest, parent, level, Above, itself, further}
+use Rattle.table.specs.Open.{deepest, EndAbove}
+use Rattle.table.proofs.Tests.{lt-or-ge}
+use Rattle.table.proofs.Tree.{latest-here, latest-next, latest-climb, parent-below, level-root, level-child, above-trans, above-parent, above-level, above-earlier}
+
+module _ (ends : List ℕ) (i : ℕ) where
+  pub deepest-here : (d : ℕ) → 0 < d → i < getD ends d 0 → deepest ends i d ≡ d
+  deepest-here zero l h = absurd (omega arith)
+  deepest-here (suc d) l h = ap (λ b. cond b (suc d) (deepest ends i d)) (lt-ltb i (getD ends (suc d) 0) h)
+
+  pub deepest-next : (d : ℕ) → 0 < d → getD ends d 0 ≤ i → deepest ends i d ≡ deepest ends i (d - 1)
+  deepest-next zero l h = absurd (omega arith)
+  deepest-next (suc d) l h =
+      let z : d ≡ suc d - 1 = omega arith in
+      ap (λ b. cond b (suc d) (deepest ends i d)) (le-ltb i (getD ends (suc d) 0) h) ∙ ap (deepest ends i) z
+
+-- The ends hold, at its level, the end of node p and of each node above it.
+pub record Open (t : List ℕ) (ends : List ℕ) (p : ℕ) : Type 0 where
+  pub held : (a : ℕ) → Above t p a → getD ends (level t a) 0 ≡ endOf t a
+
+-- a node's level is at least 1
+level-positive : (t : List ℕ) (i : ℕ) → 0 < level t i
+level-positive t i =
+    ⊎-elim (λ (z : i ≡ 0). omega (arith, ap (level t) z, level-root t)) (λ (l : 0 < i). omega (arith, level-child t i l)) (eq-zero-or-pos i)
+
+module _ (t ends : List ℕ) (p : ℕ) (o : Open t ends p) (reach : suc p < endOf t 0) where
+  -- Climbing from node j, which is p or above it, finds the parent of the node after p.
+  climb-by : (m j : ℕ) → j < m → Above t p j → latest t (suc p) (suc p) ≡ latest t (suc p) (suc j) →
+      (deepest ends (suc p) (level t j) ≡ level t (parent t (suc p))) × Above t p (parent t (suc p))
+  unfolding parent
+  climb-by zero j l u e = absurd (omega arith)
+  climb-by (suc m) j l u e =
+      ⊎-elim
+      (λ (h : suc p < endOf t j).
+      let q : parent t (suc p) ≡ j = e ∙ latest-here t (suc p) j h in (
+        deepest-here ends (suc p) (level t j) (level-positive t j) (rw (o .held j u) h) ∙ ap (level t) (sym q),
+        rw q u,
+      ))
+      (λ (h : endOf t j ≤ suc p).
+      ⊎-elim
+      (λ (z : j ≡ 0). absurd (omega (arith, ap (span t) z)))
+      (λ (k : 0 < j).
+      let d : level t j - 1 ≡ level t (parent t j) = omega (arith, level-child t j k) in
+      let r =
+          climb-by m (parent t j) (omega (arith, parent-below t j k)) (above-parent t u k)
+          (e ∙ latest-next t (suc p) j h ∙ latest-climb t (suc p) j k (omega (arith, above-earlier t u))) in
+      (deepest-next ends (suc p) (level t j) (level-positive t j) (rw (o .held j u) h) ∙ ap (deepest ends (suc p)) d ∙ r .0, r .1))
+      (eq-zero-or-pos j))
+      (lt-or-ge (suc p) (endOf t j))
+
+  pub climb : (deepest ends (suc p) (level t p) ≡ level t (parent t (suc p))) × Above t p (parent t (suc p))
+  climb = climb-by (suc p) p (omega arith) itself refl

@@ -1,0 +1,93 @@
+-- Laws of refusals 1 to 8, one for each way through the code.
+-- Assumes nothing.
+use mathlib.Core.Path.{_≡_, refl, sym, ap, _∙_}
+use mathlib.Core.Bool.{Bool, true, false, not, cond, _&&_, _||_}
+use mathlib.Core.List.{List}
+use Prim.Native.Nat.{ℕ, zero, suc, _+_, _*_, _≤_, _<_}
+use native.Mathlib.Omega.{arith}
+use borrow.Author.Tests.{lt-ltb, le-ltb, eq-eqb, ne-eqb, ltb-false}
+use lib.Dec.{ltb, eqb}
+use lib.ListN.{length}
+use Rattle.table.specs.Layout.{bytesAfter, count, header, start, maximum, kind, span, card, low, high}
+use Rattle.table.specs.Tree.{isRule, endOf, parent, level}
+use Rattle.table.specs.Open.{EndAbove}
+use Rattle.table.specs.Reading.{lengthFault, versionFault, countFault, kindFault, spanFault, rangeFault, headerFault, levelFault, rangesFault, cardFault, faultAfterKind, nodeFault}
+use Rattle.table.proofs.Tests.{neither}
+
+module _ (t : List ℕ) where
+  -- refusal 1
+
+  pub length-short : length t < header → true ≡ lengthFault t
+  unfolding lengthFault
+  length-short h = simp (lt-ltb (length t) header h)
+
+  pub length-other : (w : ℕ) → w ≡ bytesAfter t → header ≤ length t → not (eqb (length t) (w + 2)) ≡ lengthFault t
+  unfolding lengthFault
+  length-other w e h = simp (le-ltb (length t) header h, e)
+
+  -- what passes refusal 1 has a header
+  pub length-passed : lengthFault t ≡ false → header ≤ length t
+  unfolding lengthFault
+  length-passed e = ltb-false (length t) header (neither (ltb (length t) header) _ e .0)
+
+  -- refusal 3
+  module _ (n : ℕ) (en : n ≡ count t) where
+    pub count-none : n ≡ 0 → true ≡ countFault t
+    unfolding countFault
+    count-none h = simp (eq-eqb (count t) 0 (omega arith))
+
+    module _ (some : n ≡ 0 → ⊥) where
+      pub count-many : 128 < n → true ≡ countFault t
+      unfolding countFault
+      count-many h = simp (ne-eqb (count t) 0 (λ e. some (omega arith)), lt-ltb 128 (count t) (omega arith))
+
+      pub count-other : n ≤ 128 → not (eqb (length t) (start n)) ≡ countFault t
+      unfolding countFault
+      count-other h = simp (ne-eqb (count t) 0 (λ e. some (omega arith)), le-ltb 128 (count t) (omega arith), en)
+
+  module _ (i : ℕ) where
+    -- refusal 5
+    module _ (s : ℕ) (rule : Bool) (above : ℕ) (es : s ≡ span t i) (er : rule ≡ isRule t i) where
+      abbrev reach : Bool
+      reach = cond (eqb i 0) (not (eqb (span t i) (count t))) (ltb (endOf t (parent t i)) (endOf t i))
+
+      span-by : (b : Bool) → b ≡ (eqb s 0 || (rule && not (eqb s 1))) → spanFault t i ≡ (b || reach)
+      unfolding spanFault
+      span-by b e = simp (e, es, er)
+
+      pub span-odd : (b : Bool) → b ≡ (eqb s 0 || (rule && not (eqb s 1))) → b ≡ true → true ≡ spanFault t i
+      span-odd b e h = sym (span-by b e ∙ ap (λ b. b || reach) h)
+
+      pub span-root : (b : Bool) → b ≡ (eqb s 0 || (rule && not (eqb s 1))) → b ≡ false → i ≡ 0 → EndAbove t i above →
+          not (eqb s above) ≡ spanFault t i
+      span-root b e h z a =
+          sym (span-by b e ∙ ap (λ b. b || reach) h
+          ∙ ap (λ b. cond b (not (eqb (span t i) (count t))) (ltb (endOf t (parent t i)) (endOf t i))) (eq-eqb i 0 z)
+          ∙ ap (λ n. not (eqb (span t i) n)) (sym (a .root z)) ∙ ap (λ n. not (eqb n above)) (sym es))
+
+      pub span-child : (b : Bool) → b ≡ (eqb s 0 || (rule && not (eqb s 1))) → b ≡ false → 0 < i → EndAbove t i above →
+          ltb above (i + s) ≡ spanFault t i
+      span-child b e h z a =
+          sym (span-by b e ∙ ap (λ b. b || reach) h
+          ∙ ap (λ b. cond b (not (eqb (span t i) (count t))) (ltb (endOf t (parent t i)) (endOf t i)))
+          (ne-eqb i 0 (λ q. omega arith))
+          ∙ ap (λ n. ltb n (endOf t i)) (sym (a .child z)) ∙ ap (λ n. ltb above (i + n)) (sym es))
+
+    -- refusal 7
+    module _ (f h l : ℕ) (eh : h ≡ high t i f) (el : l ≡ low t i f) where
+      pub range-low : h < l → true ≡ rangeFault t i f
+      unfolding rangeFault
+      range-low g = simp (lt-ltb (high t i f) (low t i f) (omega arith))
+
+      pub range-high : (m : ℕ) → m ≡ maximum t f → l ≤ h → ltb m h ≡ rangeFault t i f
+      unfolding rangeFault
+      range-high m em g = simp (le-ltb (high t i f) (low t i f) (omega arith), em, eh)
+
+    -- refusals 4 to 8 in order
+    pub fault-group : (k d : ℕ) → k ≡ kind t i → k ≤ 5 → d ≡ faultAfterKind t i → d ≡ nodeFault t i
+    unfolding nodeFault kindFault
+    fault-group k d e l h = h ∙ sym (ap (λ b. cond b 4 (faultAfterKind t i)) (le-ltb 5 (kind t i) (omega arith)))
+
+    pub fault-kind : (k : ℕ) → k ≡ kind t i → 5 < k → 4 ≡ nodeFault t i
+    unfolding nodeFault kindFault
+    fault-kind k e l = sym (ap (λ b. cond b 4 (faultAfterKind t i)) (lt-ltb 5 (kind t i) (omega arith)))

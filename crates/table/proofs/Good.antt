@@ -1,0 +1,95 @@
+-- What a node that none of refusals 4 to 8 applies to is like.
+-- Assumes nothing.
+use mathlib.Core.Path.{_≡_, refl, sym, ap, _∙_}
+use mathlib.Core.Bool.{Bool, true, false, not, cond, _&&_, _||_}
+use mathlib.Core.Logic.{⊎-elim}
+use mathlib.Core.List.{List}
+use Prim.Native.Nat.{ℕ, _≤_, _<_}
+use native.Mathlib.Nat.{pos-of-ne-zero}
+use native.Mathlib.Omega.{arith}
+use borrow.Author.Tests.{ltb-false, eqb-true, eqb-false, not-false, eq-eqb, ne-eqb, le-leb, lt-leb}
+use lib.Dec.{ltb, eqb, leb, lit<}
+use Rattle.answer.specs.Fields.{fields}
+use Rattle.table.specs.Layout.{maximum, count, kind, span, card, low, high}
+use Rattle.table.specs.Tree.{isRule, endOf, parent, level}
+use Rattle.table.specs.Reading.{kindFault, spanFault, levelFault, rangeFault, rangesFault, cardFault, faultAfterKind, nodeFault}
+use Rattle.table.proofs.Tests.{neither, not-chosen, none-below}
+
+pub record Good (t : List ℕ) (i : ℕ) : Type 0 where
+  pub kinds : kind t i ≤ 5
+  pub spans : 1 ≤ span t i
+  pub rules : 4 ≤ kind t i → span t i ≡ 1
+  pub root : i ≡ 0 → span t i ≡ count t
+  pub inside : 0 < i → endOf t i ≤ endOf t (parent t i)
+  pub levels : level t i ≤ 8
+  pub rising : (f : ℕ) → f < fields → low t i f ≤ high t i f
+  pub within : (f : ℕ) → f < fields → high t i f ≤ maximum t f
+  pub carded : 4 ≤ kind t i → 1 ≤ card t i
+  pub plain : kind t i < 4 → card t i ≡ 0
+
+module _ (t : List ℕ) (i : ℕ) where
+  abbrev reach : Bool
+  reach = cond (eqb i 0) (not (eqb (span t i) (count t))) (ltb (endOf t (parent t i)) (endOf t i))
+
+  span-parts : spanFault t i ≡ false → (eqb (span t i) 0 ≡ false) × ((isRule t i && not (eqb (span t i) 1)) ≡ false) × (reach ≡ false)
+  unfolding spanFault
+  span-parts e =
+      let a = neither (eqb (span t i) 0 || (isRule t i && not (eqb (span t i) 1))) reach e in
+      let b = neither (eqb (span t i) 0) (isRule t i && not (eqb (span t i) 1)) (a .0) in
+      (b .0, b .1, a .1)
+
+  range-parts : (f : ℕ) → rangeFault t i f ≡ false → (low t i f ≤ high t i f) × (high t i f ≤ maximum t f)
+  unfolding rangeFault
+  range-parts f e =
+      let a = neither (ltb (high t i f) (low t i f)) (ltb (maximum t f) (high t i f)) e in
+      (ltb-false _ _ (a .0), ltb-false _ _ (a .1))
+
+  ranges-parts : rangesFault t i ≡ false → (f : ℕ) → f < fields → rangeFault t i f ≡ false
+  unfolding rangesFault
+  ranges-parts e f l = none-below (rangeFault t i) fields e f l
+
+  card-rule : cardFault t i ≡ false → 4 ≤ kind t i → 1 ≤ card t i
+  unfolding cardFault
+  card-rule e l =
+      pos-of-ne-zero
+      (eqb-false (card t i) 0
+      (sym (ap (λ b. cond b (eqb (card t i) 0) (not (eqb (card t i) 0))) (le-leb 4 (kind t i) l)) ∙ e))
+
+  card-group : cardFault t i ≡ false → kind t i < 4 → card t i ≡ 0
+  unfolding cardFault
+  card-group e l =
+      eqb-true (card t i) 0
+      (not-false _ (sym (ap (λ b. cond b (eqb (card t i) 0) (not (eqb (card t i) 0))) (lt-leb 4 (kind t i) l)) ∙ e))
+
+  level-part : levelFault t i ≡ false → level t i ≤ 8
+  unfolding levelFault
+  level-part e = ltb-false 8 (level t i) e
+
+  kind-part : kindFault t i ≡ false → kind t i ≤ 5
+  unfolding kindFault
+  kind-part e = ltb-false 5 (kind t i) e
+
+  pub good : nodeFault t i ≡ 0 → Good t i
+  unfolding nodeFault
+  good e =
+      let k = not-chosen (kindFault t i) 4 (faultAfterKind t i) (lit< tt) e in
+      let s = not-chosen (spanFault t i) 5 _ (lit< tt) (k .1) in
+      let l = not-chosen (levelFault t i) 6 _ (lit< tt) (s .1) in
+      let r = not-chosen (rangesFault t i) 7 _ (lit< tt) (l .1) in
+      let d = not-chosen (cardFault t i) 8 0 (lit< tt) (r .1) in
+      let p = span-parts (s .0) in
+      record {
+        kinds = kind-part (k .0);
+        spans = pos-of-ne-zero (eqb-false (span t i) 0 (p .0));
+        rules = λ h. eqb-true (span t i) 1
+            (not-false _ (sym (ap (λ b. b && not (eqb (span t i) 1)) (le-leb 4 (kind t i) h)) ∙ p .1));
+        root = λ z. eqb-true _ _
+            (not-false _ (sym (ap (λ b. cond b (not (eqb (span t i) (count t))) (ltb (endOf t (parent t i)) (endOf t i))) (eq-eqb i 0 z)) ∙ p .2));
+        inside = λ z. ltb-false _ _
+            (sym (ap (λ b. cond b (not (eqb (span t i) (count t))) (ltb (endOf t (parent t i)) (endOf t i))) (ne-eqb i 0 (λ q. omega arith))) ∙ p .2);
+        levels = level-part (l .0);
+        rising = λ f h. range-parts f (ranges-parts (r .0) f h) .0;
+        within = λ f h. range-parts f (ranges-parts (r .0) f h) .1;
+        carded = card-rule (d .0);
+        plain = card-group (d .0);
+      }

@@ -1,0 +1,8 @@
+-- What the proofs of several functions use, and the theorems about reading.
+pub mod Tests
+pub mod Tree
+pub mod Faults
+pub mod Climb
+pub mod Header
+pub mod Good
+pub mod Pass

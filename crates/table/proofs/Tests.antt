@@ -1,0 +1,50 @@
+-- Laws of tests: what a test or a conjunction, a disjunction or a choice of tests that failed tells.
+-- Assumes nothing.
+use mathlib.Core.Path.{_≡_, refl, sym, ap, _∙_}
+use mathlib.Core.Bool.{Bool, true, false, cond, _||_, or-true}
+use mathlib.Core.Logic.{_⊎_, inl, inr, ⊎-elim}
+use Prim.Native.Nat.{ℕ, zero, suc, _+_, _≤_, _<_}
+use native.Mathlib.Nat.{eq-or-lt-of-le}
+use native.Mathlib.Numerals.{add-one}
+use native.Mathlib.Omega.{arith}
+use borrow.Author.Tests.{ltb-true, ltb-false}
+use lib.Dec.{ltb}
+use Rattle.table.specs.Reading.{someBelow}
+
+pub lt-or-ge : (a b : ℕ) → (a < b) ⊎ (b ≤ a)
+lt-or-ge a b = by (ltb a b) refl
+  where
+    by : (x : Bool) → ltb a b ≡ x → (a < b) ⊎ (b ≤ a)
+    by true e = inl (ltb-true a b e)
+    by false e = inr (ltb-false a b e)
+
+pub true-or-false : (b : Bool) → (b ≡ true) ⊎ (b ≡ false)
+true-or-false true = inl refl
+true-or-false false = inr refl
+
+pub neither : (a b : Bool) → (a || b) ≡ false → (a ≡ false) × (b ≡ false)
+neither true b e = absurd (let z : _≡_ {A = ℕ} 1 0 = ap (λ x. cond x 1 0) e in omega arith)
+neither false b e = (refl, e)
+
+-- a choice between a positive number and another that gives 0 gave the other
+pub not-chosen : (b : Bool) (k x : ℕ) → 0 < k → cond b k x ≡ 0 → (b ≡ false) × (x ≡ 0)
+not-chosen true k x l e = absurd (omega arith)
+not-chosen false k x l e = (refl, e)
+
+module _ (p : ℕ → Bool) where
+  pub some-true : (n k : ℕ) → k < n → p k ≡ true → someBelow n p ≡ true
+  some-true zero k l e = absurd (omega arith)
+  some-true (suc n) k l e =
+      ⊎-elim
+      (λ (q : k ≡ n). ap (λ b. someBelow n p || b) (ap p (sym q) ∙ e) ∙ or-true (someBelow n p))
+      (λ (q : k < n). ap (λ b. b || p n) (some-true n k q e))
+      (eq-or-lt-of-le (omega arith))
+
+  pub some-more : (k : ℕ) → someBelow k p ≡ false → p k ≡ false → someBelow (k + 1) p ≡ false
+  some-more k e h = rw add-one (ap (λ b. b || p k) e ∙ h)
+
+  pub none-below : (n : ℕ) → someBelow n p ≡ false → (k : ℕ) → k < n → p k ≡ false
+  none-below zero e k l = absurd (omega arith)
+  none-below (suc n) e k l =
+      let h = neither (someBelow n p) (p n) e in
+      ⊎-elim (λ (q : k ≡ n). ap p q ∙ h .1) (λ (q : k < n). none-below n (h .0) k q) (eq-or-lt-of-le (omega arith))

@@ -1,0 +1,81 @@
+-- When a table is refused, and what reading one answers: document 01's refusals 1 to 8, in the order of its table.
+-- Assumes nothing: these are definitions.
+use mathlib.Core.Bool.{Bool, true, false, not, cond, _&&_, _||_}
+use mathlib.Core.List.{List}
+use mathlib.Core.Path.{_≡_}
+use Prim.Native.Nat.{ℕ, zero, suc, _+_, _*_}
+use lib.Dec.{eqb, ltb}
+use lib.ListN.{length}
+use Rattle.answer.specs.Fields.{fields}
+use Rattle.answer.specs.Answers.{refused, counted}
+use Rattle.answer.specs.declared.Answer.{Answer}
+use Rattle.table.specs.Layout.{bytesAfter, version, maximum, count, header, start, kind, span, card, low, high}
+use Rattle.table.specs.Tree.{isRule, endOf, parent, level}
+
+-- 1: "under 8 bytes, or slice length isn't bytes 0-1 plus 2"
+unfoldable pub lengthFault : List ℕ → Bool
+lengthFault t = ltb (length t) header || not (eqb (length t) (bytesAfter t + 2))
+
+-- 2: "version isn't 1"
+unfoldable pub versionFault : List ℕ → Bool
+versionFault t = not (eqb (version t) 1)
+
+-- 3: "node count 0 or over 128, or slice length isn't 8 + 11 × count"
+unfoldable pub countFault : List ℕ → Bool
+countFault t = eqb (count t) 0 || ltb 128 (count t) || not (eqb (length t) (start (count t)))
+
+-- 4: "kind over 5"
+unfoldable pub kindFault : List ℕ → ℕ → Bool
+kindFault t i = ltb 5 (kind t i)
+
+-- 5: "span 0; rule's span not 1; root's span not the count; span past its parent's end"
+unfoldable pub spanFault : List ℕ → ℕ → Bool
+spanFault t i =
+    eqb (span t i) 0
+    || (isRule t i && not (eqb (span t i) 1))
+    || cond (eqb i 0) (not (eqb (span t i) (count t))) (ltb (endOf t (parent t i)) (endOf t i))
+
+-- 6: "level 9 or deeper"
+unfoldable pub levelFault : List ℕ → ℕ → Bool
+levelFault t i = ltb 8 (level t i)
+
+-- the test passes at some number below n
+abbrev pub someBelow : ℕ → (ℕ → Bool) → Bool
+someBelow zero p = false
+someBelow (suc n) p = someBelow n p || p n
+
+-- 7: "low over high, or high over the maximum", in field f
+unfoldable pub rangeFault : List ℕ → ℕ → ℕ → Bool
+rangeFault t i f = ltb (high t i f) (low t i f) || ltb (maximum t f) (high t i f)
+
+unfoldable pub rangesFault : List ℕ → ℕ → Bool
+rangesFault t i = someBelow fields (rangeFault t i)
+
+-- 8: "rule with card 0, or group with another card"
+unfoldable pub cardFault : List ℕ → ℕ → Bool
+cardFault t i = cond (isRule t i) (eqb (card t i) 0) (not (eqb (card t i) 0))
+
+-- "Order: 1, 2, 3": the number of the refusal of the whole table; 0 where none applies
+unfoldable pub headerFault : List ℕ → ℕ
+headerFault t = cond (lengthFault t) 1 (cond (versionFault t) 2 (cond (countFault t) 3 0))
+
+-- "lowest number first within a node": the number of the refusal of node i; 0 where none applies
+abbrev pub faultAfterKind : List ℕ → ℕ → ℕ
+faultAfterKind t i =
+    cond (spanFault t i) 5 (cond (levelFault t i) 6 (cond (rangesFault t i) 7 (cond (cardFault t i) 8 0)))
+
+unfoldable pub nodeFault : List ℕ → ℕ → ℕ
+nodeFault t i = cond (kindFault t i) 4 (faultAfterKind t i)
+
+-- "then nodes upward": what the k nodes from i upward answer
+abbrev pub readFrom : List ℕ → ℕ → ℕ → Answer
+readFrom t i zero = counted (count t)
+readFrom t i (suc k) = cond (eqb (nodeFault t i) 0) (readFrom t (i + 1) k) (refused (nodeFault t i) i)
+
+-- What reading a table answers: "a reading alone counts nodes".
+unfoldable pub reading : List ℕ → Answer
+reading t = cond (eqb (headerFault t) 0) (readFrom t 0 (count t)) (refused (headerFault t) 0)
+
+-- "A table is accepted when none of refusals 1 to 8 applies to it"
+abbrev pub Accepted : List ℕ → Type 0
+Accepted t = reading t .number ≡ 0

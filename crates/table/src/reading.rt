@@ -1,0 +1,221 @@
+// Reading a table: refusals 1 to 8, in one pass over the nodes.
+use crate::layout::HEADER;
+use crate::layout::LEVELS;
+use crate::layout::NODES;
+use crate::layout::RECORD;
+use crate::layout::VERSION;
+use crate::layout::card_at;
+use crate::layout::count_at;
+use crate::layout::high_at;
+use crate::layout::kind_at;
+use crate::layout::low_at;
+use crate::layout::maximum_at;
+use crate::layout::span_at;
+use crate::layout::word_at;
+use answer::Answer;
+use answer::FIELDS;
+ghost use mathlib.Core.Path.{_≡_};
+ghost use mathlib.Core.Bool.{not, _&&_, _||_, true, false};
+ghost use Prim.Native.Nat.{_+_, _≤_, _<_};
+ghost use lib.Dec.{eqb};
+ghost use lib.ListN.{length};
+ghost use Rattle.answer.specs.Fields.{fields};
+ghost use Rattle.table.specs.Layout.{count, header, start};
+ghost use Rattle.table.specs.Tree.{isRule, level};
+ghost use Rattle.table.specs.Open.{deepest, EndAbove};
+ghost use Rattle.table.specs.Reading.{lengthFault, versionFault, countFault, headerFault};
+ghost use Rattle.table.specs.Reading.{spanFault, rangeFault, rangesFault, cardFault, faultAfterKind, nodeFault, reading};
+
+// Refusal 1: the slice is too short, or not as long as it says.
+fn length_fault(table: &[u8]) -> bool
+    ensures { λ r. ⌜ r ≡ lengthFault (now (table .entry)) ⌝ }
+{
+    if table.len() < HEADER {
+        true
+    } else {
+        table.len() != word_at(table, 0) as usize + 2
+    }
+}
+
+// Refusal 2: another version.
+fn version_fault(table: &[u8]) -> bool
+    requires { ⌜ header ≤ length (now table) ⌝ }
+    ensures { λ r. ⌜ r ≡ versionFault (now (table .entry)) ⌝ }
+{
+    table[VERSION] != 1
+}
+
+// Refusal 3: no nodes, too many, or not the records that the count says.
+fn count_fault(table: &[u8]) -> bool
+    requires { ⌜ header ≤ length (now table) ⌝ }
+    ensures { λ r. ⌜ r ≡ countFault (now (table .entry)) ⌝ }
+{
+    let n = count_at(table);
+    if n == 0 {
+        true
+    } else if NODES < n {
+        true
+    } else {
+        table.len() != HEADER + RECORD * n
+    }
+}
+
+// The number of the refusal of the whole table, or 0.
+fn header_fault(table: &[u8]) -> u8
+    ensures { λ r. ⌜ r ≡ headerFault (now (table .entry)) ⌝ }
+{
+    if length_fault(table) {
+        1
+    } else if version_fault(table) {
+        2
+    } else if count_fault(table) {
+        3
+    } else {
+        0
+    }
+}
+
+// A span of 0, or a rule's that is not 1.
+fn odd_span(span: usize, rule: bool) -> bool
+    ensures { λ r. ⌜ r ≡ (eqb span 0 || (rule && not (eqb span 1))) ⌝ }
+{
+    if span == 0 {
+        true
+    } else if rule {
+        span != 1
+    } else {
+        false
+    }
+}
+
+// Refusal 5, where the nodes that node i stands among end at above.
+fn span_fault(table: &[u8], i: usize, rule: bool, above: usize) -> bool
+    requires { ⌜ (i < 128) × (start (i + 1) ≤ length (now table)) ⌝ }
+    requires { ⌜ (rule ≡ isRule (now table) i) × EndAbove (now table) i above ⌝ }
+    ensures { λ r. ⌜ r ≡ spanFault (now (table .entry)) i ⌝ }
+{
+    let span = span_at(table, i);
+    if odd_span(span, rule) {
+        true
+    } else if i == 0 {
+        span != above
+    } else {
+        above < i + span
+    }
+}
+
+// Refusal 7 in one field.
+fn range_fault(table: &[u8], i: usize, field: usize) -> bool
+    requires { ⌜ (i < 128) × (start (i + 1) ≤ length (now table)) ⌝ }
+    requires { ⌜ field < fields ⌝ }
+    ensures { λ r. ⌜ r ≡ rangeFault (now (table .entry)) i field ⌝ }
+{
+    let high = high_at(table, i, field);
+    if high < low_at(table, i, field) {
+        true
+    } else {
+        maximum_at(table, field) < high
+    }
+}
+
+// Refusal 7: a low over its high, or a high over the maximum.
+fn ranges_fault(table: &[u8], i: usize) -> bool
+    requires { ⌜ (i < 128) × (start (i + 1) ≤ length (now table)) ⌝ }
+    ensures { λ r. ⌜ r ≡ rangesFault (now (table .entry)) i ⌝ }
+{
+    let mut field = 0;
+    while field < FIELDS {
+        if range_fault(table, i, field) {
+            return true;
+        }
+        field += 1;
+    }
+    false
+}
+
+// Refusal 8: a rule with card 0, or a group with another.
+fn card_fault(table: &[u8], i: usize, rule: bool) -> bool
+    requires { ⌜ (i < 128) × (start (i + 1) ≤ length (now table)) ⌝ }
+    requires { ⌜ rule ≡ isRule (now table) i ⌝ }
+    ensures { λ r. ⌜ r ≡ cardFault (now (table .entry)) i ⌝ }
+{
+    let card = card_at(table, i);
+    if rule { card == 0 } else { card != 0 }
+}
+
+// Refusals 5 to 8 of node i, under a node on level depth.
+fn fault_of(table: &[u8], i: usize, rule: bool, above: usize, depth: usize) -> u8
+    requires { ⌜ (i < 128) × (start (i + 1) ≤ length (now table)) ⌝ }
+    requires { ⌜ (rule ≡ isRule (now table) i) × EndAbove (now table) i above ⌝ }
+    requires { ⌜ level (now table) i ≡ depth + 1 ⌝ }
+    ensures { λ r. ⌜ r ≡ faultAfterKind (now (table .entry)) i ⌝ }
+{
+    if span_fault(table, i, rule, above) {
+        5
+    } else if LEVELS <= depth {
+        6
+    } else if ranges_fault(table, i) {
+        7
+    } else if card_fault(table, i, rule) {
+        8
+    } else {
+        0
+    }
+}
+
+// The number of the refusal of node i, or 0.
+fn node_fault(table: &[u8], i: usize, above: usize, depth: usize) -> u8
+    requires { ⌜ (i < 128) × (start (i + 1) ≤ length (now table)) ⌝ }
+    requires { ⌜ EndAbove (now table) i above × (level (now table) i ≡ depth + 1) ⌝ }
+    ensures { λ r. ⌜ r ≡ nodeFault (now (table .entry)) i ⌝ }
+{
+    let kind = kind_at(table, i);
+    match kind {
+        0..=3 => fault_of(table, i, false, above, depth),
+        4..=5 => fault_of(table, i, true, above, depth),
+        _ => 4,
+    }
+}
+
+// The level of the node right above node i, by climbing from the node before it: ends says where the open node of each
+// level ends. Each level is left once for each node that opened it, so all climbs together take one step for each node.
+fn depth_above(ends: &[usize; LEVELS + 1], depth: usize, i: usize) -> usize
+    requires { ⌜ depth ≤ 8 ⌝ }
+    ensures { λ r. ⌜ (r ≡ deepest (now (ends .entry)) i depth) × (r ≤ depth) ⌝ }
+{
+    let mut d = depth;
+    while 0 < d {
+        if i < ends[d] {
+            return d;
+        }
+        d -= 1;
+    }
+    0
+}
+
+// Reads a table: the number of its nodes, or the first refusal.
+pub fn read(table: &[u8]) -> Answer
+    ensures { λ r. ⌜ r ≡ reading (now (table .entry)) ⌝ }
+{
+    let number = header_fault(table);
+    if number != 0 {
+        return Answer::refused(number, 0);
+    }
+    let n = count_at(table);
+    // Where the open node of each level ends. Level 0 is the table itself.
+    let mut ends = [n; LEVELS + 1];
+    let mut depth = 0;
+    let mut i = 0;
+    while i < n {
+        depth = depth_above(&ends, depth, i);
+        let above = ends[depth];
+        let number = node_fault(table, i, above, depth);
+        if number != 0 {
+            return Answer::refused(number, i);
+        }
+        depth += 1;
+        ends[depth] = i + span_at(table, i);
+        i += 1;
+    }
+    Answer::counted(n)
+}
