@@ -4,17 +4,16 @@ use mathlib.Core.Path.{_≡_, refl, sym, ap, _∙_}
 use mathlib.Core.Bool.{cond}
 use mathlib.Core.Logic.{⊎-elim}
 use mathlib.Core.List.{List}
-use Prim.Native.Nat.{ℕ, zero, suc, _+_, _-_, _≤_, _<_}
+use Prim.Native.Nat.{ℕ, zero, suc, _-_, _≤_, _<_}
 use native.Mathlib.Nat.{eq-zero-or-pos}
 use native.Mathlib.Omega.{arith}
 use borrow.Author.Tests.{lt-ltb, le-ltb}
-use lib.ListN.{length, getD, set, length-set}
-use lib.Seq.{getD-set-same, getD-set-other}
-use Rattle.table.specs.Layout.{count, span}
-use Rattle.table.specs.Tree.{endOf, latest, parent, level, Above, itself, further}
-use Rattle.table.specs.Open.{deepest, EndAbove}
+use lib.ListN.{getD}
+use Rattle.table.specs.Layout.{span}
+use Rattle.table.specs.Tree.{endOf, latest, parent, level, Above, itself}
+use Rattle.table.specs.Open.{deepest}
 use Rattle.table.proofs.Tests.{lt-or-ge}
-use Rattle.table.proofs.Tree.{latest-here, latest-next, latest-climb, parent-below, level-root, level-child, above-trans, above-parent, above-level, above-earlier}
+use Rattle.table.proofs.Tree.{latest-here, latest-next, latest-climb, parent-below, level-root, level-child, above-parent, above-earlier}
 
 module _ (ends : List ℕ) (i : ℕ) where
   pub deepest-here : (d : ℕ) → 0 < d → i < getD ends d 0 → deepest ends i d ≡ d
@@ -55,8 +54,8 @@ module _ (t ends : List ℕ) (p : ℕ) (o : Open t ends p) (reach : suc p < endO
       (λ (k : 0 < j).
       let d : level t j - 1 ≡ level t (parent t j) = omega (arith, level-child t j k) in
       let r =
-          climb-by m (parent t j) (omega (arith, parent-below t j k)) (above-parent t u k)
-          (e ∙ latest-next t (suc p) j h ∙ latest-climb t (suc p) j k (omega (arith, above-earlier t u))) in
+      climb-by m (parent t j) (omega (arith, parent-below t j k)) (above-parent t u k)
+      (e ∙ latest-next t (suc p) j h ∙ latest-climb t (suc p) j k (omega (arith, above-earlier t u))) in
       (deepest-next ends (suc p) (level t j) (level-positive t j) (rw (o .held j u) h) ∙ ap (deepest ends (suc p)) d ∙ r .0, r .1))
       (eq-zero-or-pos j))
       (lt-or-ge (suc p) (endOf t j))

@@ -1,17 +1,17 @@
 -- Laws of refusals 1 to 8, one for each way through the code.
 -- Assumes nothing.
-use mathlib.Core.Path.{_≡_, refl, sym, ap, _∙_}
+use mathlib.Core.Path.{_≡_, sym, ap, _∙_}
 use mathlib.Core.Bool.{Bool, true, false, not, cond, _&&_, _||_}
 use mathlib.Core.List.{List}
-use Prim.Native.Nat.{ℕ, zero, suc, _+_, _*_, _≤_, _<_}
+use Prim.Native.Nat.{ℕ, _+_, _≤_, _<_}
 use native.Mathlib.Omega.{arith}
 use borrow.Author.Tests.{lt-ltb, le-ltb, eq-eqb, ne-eqb, ltb-false}
 use lib.Dec.{ltb, eqb}
 use lib.ListN.{length}
-use Rattle.table.specs.Layout.{bytesAfter, count, header, start, maximum, kind, span, card, low, high}
-use Rattle.table.specs.Tree.{isRule, endOf, parent, level}
+use Rattle.table.specs.Layout.{bytesAfter, count, header, start, maximum, kind, span, low, high}
+use Rattle.table.specs.Tree.{isRule, endOf, parent}
 use Rattle.table.specs.Open.{EndAbove}
-use Rattle.table.specs.Reading.{lengthFault, versionFault, countFault, kindFault, spanFault, rangeFault, headerFault, levelFault, rangesFault, cardFault, faultAfterKind, nodeFault}
+use Rattle.table.specs.Reading.{lengthFault, countFault, kindFault, spanFault, rangeFault, faultAfterKind, nodeFault}
 use Rattle.table.proofs.Tests.{neither}
 
 module _ (t : List ℕ) where

@@ -1,19 +1,49 @@
 -- What a node that none of refusals 4 to 8 applies to is like.
 -- Assumes nothing.
-use mathlib.Core.Path.{_≡_, refl, sym, ap, _∙_}
-use mathlib.Core.Bool.{Bool, true, false, not, cond, _&&_, _||_}
-use mathlib.Core.Logic.{⊎-elim}
+use mathlib.Core.Path.{_≡_, sym, ap, _∙_}
+use mathlib.Core.Bool.{Bool, false, not, cond, _&&_, _||_}
 use mathlib.Core.List.{List}
 use Prim.Native.Nat.{ℕ, _≤_, _<_}
 use native.Mathlib.Nat.{pos-of-ne-zero}
 use native.Mathlib.Omega.{arith}
 use borrow.Author.Tests.{ltb-false, eqb-true, eqb-false, not-false, eq-eqb, ne-eqb, le-leb, lt-leb}
-use lib.Dec.{ltb, eqb, leb, lit<}
+use lib.Dec.{ltb, eqb, lit<}
 use Rattle.answer.specs.Fields.{fields}
 use Rattle.table.specs.Layout.{maximum, count, kind, span, card, low, high}
 use Rattle.table.specs.Tree.{isRule, endOf, parent, level}
-use Rattle.table.specs.Reading.{kindFault, spanFault, levelFault, rangeFault, rangesFault, cardFault, faultAfterKind, nodeFault}
+use Rattle.table.specs.Reading.{kindFault, spanFault, levelFault, rangeFault, rangesFault, cardFault, faultAfterKind, nodeFault, Accepted}
 use Rattle.table.proofs.Tests.{neither, not-chosen, none-below}
+
+-- none of refusals 4 to 8 applies to node i
+pub record NodePassed (t : List ℕ) (i : ℕ) : Type 0 where
+  pub kind : kindFault t i ≡ false
+  pub span : spanFault t i ≡ false
+  pub level : levelFault t i ≡ false
+  pub ranges : rangesFault t i ≡ false
+  pub card : cardFault t i ≡ false
+
+pub node-passed : (t : List ℕ) (i : ℕ) → nodeFault t i ≡ 0 → NodePassed t i
+unfolding nodeFault
+node-passed t i e =
+    let k = not-chosen (kindFault t i) 4 (faultAfterKind t i) (lit< tt) e in
+    let s = not-chosen (spanFault t i) 5 _ (lit< tt) (k .1) in
+    let l = not-chosen (levelFault t i) 6 _ (lit< tt) (s .1) in
+    let r = not-chosen (rangesFault t i) 7 _ (lit< tt) (l .1) in
+    let d = not-chosen (cardFault t i) 8 0 (lit< tt) (r .1) in
+    record { kind = k .0; span = s .0; level = l .0; ranges = r .0; card = d .0 }
+
+pub accepted-node : (t : List ℕ) → Accepted t → (i : ℕ) → i < count t → NodePassed t i
+accepted-node t c i l = record {
+  kind = c .kinds i l;
+  span = c .spans i l;
+  level = c .levels i l;
+  ranges = c .ranges i l;
+  card = c .cards i l;
+}
+
+pub no-fault : (t : List ℕ) (i : ℕ) → NodePassed t i → nodeFault t i ≡ 0
+unfolding nodeFault
+no-fault t i e = simp (e .kind, e .span, e .level, e .ranges, e .card)
 
 pub record Good (t : List ℕ) (i : ℕ) : Type 0 where
   pub kinds : kind t i ≤ 5
@@ -69,17 +99,11 @@ module _ (t : List ℕ) (i : ℕ) where
   unfolding kindFault
   kind-part e = ltb-false 5 (kind t i) e
 
-  pub good : nodeFault t i ≡ 0 → Good t i
-  unfolding nodeFault
+  pub good : NodePassed t i → Good t i
   good e =
-      let k = not-chosen (kindFault t i) 4 (faultAfterKind t i) (lit< tt) e in
-      let s = not-chosen (spanFault t i) 5 _ (lit< tt) (k .1) in
-      let l = not-chosen (levelFault t i) 6 _ (lit< tt) (s .1) in
-      let r = not-chosen (rangesFault t i) 7 _ (lit< tt) (l .1) in
-      let d = not-chosen (cardFault t i) 8 0 (lit< tt) (r .1) in
-      let p = span-parts (s .0) in
+      let p = span-parts (e .span) in
       record {
-        kinds = kind-part (k .0);
+        kinds = kind-part (e .kind);
         spans = pos-of-ne-zero (eqb-false (span t i) 0 (p .0));
         rules = λ h. eqb-true (span t i) 1
             (not-false _ (sym (ap (λ b. b && not (eqb (span t i) 1)) (le-leb 4 (kind t i) h)) ∙ p .1));
@@ -87,9 +111,9 @@ module _ (t : List ℕ) (i : ℕ) where
             (not-false _ (sym (ap (λ b. cond b (not (eqb (span t i) (count t))) (ltb (endOf t (parent t i)) (endOf t i))) (eq-eqb i 0 z)) ∙ p .2));
         inside = λ z. ltb-false _ _
             (sym (ap (λ b. cond b (not (eqb (span t i) (count t))) (ltb (endOf t (parent t i)) (endOf t i))) (ne-eqb i 0 (λ q. omega arith))) ∙ p .2);
-        levels = level-part (l .0);
-        rising = λ f h. range-parts f (ranges-parts (r .0) f h) .0;
-        within = λ f h. range-parts f (ranges-parts (r .0) f h) .1;
-        carded = card-rule (d .0);
-        plain = card-group (d .0);
+        levels = level-part (e .level);
+        rising = λ f h. range-parts f (ranges-parts (e .ranges) f h) .0;
+        within = λ f h. range-parts f (ranges-parts (e .ranges) f h) .1;
+        carded = card-rule (e .card);
+        plain = card-group (e .card);
       }

@@ -1,18 +1,39 @@
 -- What a table that none of refusals 1 to 3 applies to is like, and what reading answers by them.
 -- Assumes nothing.
-use mathlib.Core.Path.{_≡_, refl, sym, ap, _∙_}
-use mathlib.Core.Bool.{Bool, true, false, not, cond, _||_}
+use mathlib.Core.Path.{_≡_, ap}
+use mathlib.Core.Bool.{false, not, cond, _||_}
 use mathlib.Core.List.{List}
-use Prim.Native.Nat.{ℕ, _≤_, _<_}
+use Prim.Native.Nat.{ℕ, _≤_}
 use native.Mathlib.Nat.{pos-of-ne-zero}
 use borrow.Author.Tests.{ltb-false, eqb-true, eqb-false, not-false, eq-eqb, ne-eqb}
 use lib.Dec.{ltb, eqb, lit<}
 use lib.ListN.{length}
 use Rattle.answer.specs.Answers.{refused}
 use Rattle.table.specs.Layout.{count, header, start}
-use Rattle.table.specs.Reading.{lengthFault, versionFault, countFault, headerFault, readFrom, reading}
+use Rattle.table.specs.Reading.{lengthFault, versionFault, countFault, headerFault, readFrom, reading, Accepted}
 use Rattle.table.proofs.Tests.{neither, not-chosen}
 use Rattle.table.proofs.Faults.{length-passed}
+
+-- none of refusals 1 to 3 applies
+pub record HeaderPassed (t : List ℕ) : Type 0 where
+  pub length : lengthFault t ≡ false
+  pub version : versionFault t ≡ false
+  pub count : countFault t ≡ false
+
+pub header-passed : (t : List ℕ) → headerFault t ≡ 0 → HeaderPassed t
+unfolding headerFault
+header-passed t e =
+    let l = not-chosen (lengthFault t) 1 _ (lit< tt) e in
+    let v = not-chosen (versionFault t) 2 _ (lit< tt) (l .1) in
+    let n = not-chosen (countFault t) 3 0 (lit< tt) (v .1) in
+    record { length = l .0; version = v .0; count = n .0 }
+
+pub accepted-header : (t : List ℕ) → Accepted t → HeaderPassed t
+accepted-header t c = record { length = c .length; version = c .version; count = c .counts }
+
+pub no-header-fault : (t : List ℕ) → HeaderPassed t → headerFault t ≡ 0
+unfolding headerFault
+no-header-fault t e = simp (e .length, e .version, e .count)
 
 pub record Headed (t : List ℕ) : Type 0 where
   pub long : header ≤ length t
@@ -28,14 +49,10 @@ module _ (t : List ℕ) where
       let b = neither (eqb (count t) 0) (ltb 128 (count t)) (a .0) in
       (pos-of-ne-zero (eqb-false (count t) 0 (b .0)), ltb-false 128 (count t) (b .1), eqb-true _ _ (not-false _ (a .1)))
 
-  pub headed : headerFault t ≡ 0 → Headed t
-  unfolding headerFault
+  pub headed : HeaderPassed t → Headed t
   headed e =
-      let l = not-chosen (lengthFault t) 1 _ (lit< tt) e in
-      let v = not-chosen (versionFault t) 2 _ (lit< tt) (l .1) in
-      let n = not-chosen (countFault t) 3 0 (lit< tt) (v .1) in
-      let p = count-parts (n .0) in
-      record { long = length-passed t (l .0); records = p .2; some = p .0; few = p .1 }
+      let p = count-parts (e .count) in
+      record { long = length-passed t (e .length); records = p .2; some = p .0; few = p .1 }
 
   pub read-header : (headerFault t ≡ 0 → ⊥) → reading t ≡ refused (headerFault t) 0
   unfolding reading

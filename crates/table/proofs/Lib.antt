@@ -6,3 +6,6 @@ pub mod Climb
 pub mod Header
 pub mod Good
 pub mod Pass
+pub mod FirstRefusal
+pub mod AcceptedIsWellFormed
+pub mod ParentsAndSpansAgree

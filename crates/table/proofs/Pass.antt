@@ -8,7 +8,6 @@ use Prim.Native.Nat.{ℕ, zero, suc, _+_, _-_, _≤_, _<_}
 use native.Mathlib.Nat.{eq-zero-or-pos}
 use native.Mathlib.Omega.{arith}
 use borrow.Author.Tests.{eq-eqb, ne-eqb}
-use lib.Dec.{eqb}
 use lib.ListN.{length, getD, set, length-set}
 use lib.Seq.{getD-set-same, getD-set-other}
 use Rattle.answer.specs.Answers.{refused, counted}
@@ -19,7 +18,7 @@ use Rattle.table.specs.Reading.{headerFault, nodeFault, readFrom, readin
 use Rattle.table.proofs.Tree.{level-root, level-child, above-trans, above-level}
 use Rattle.table.proofs.Climb.{Open, climb}
 use Rattle.table.proofs.Header.{read-nodes}
-use Rattle.table.proofs.Good.{good}
+use Rattle.table.proofs.Good.{good, node-passed}
 
 module _ (t : List ℕ) (n : ℕ) where
   -- a node that passes leaves the answer to those after it
@@ -108,7 +107,7 @@ module _ (t : List ℕ) (n : ℕ) where
         Passed (set ends (r + 1) e) (r + 1) (i + 1)
     next i e s l er ef ee =
         let f = found i s l er in
-        let g = good t i ef in
+        let g = good t i (node-passed t i ef) in
         let lr : r + 1 ≤ 8 = omega (arith, f .1, g .levels) in
         record {
           whole = s .whole;

@@ -1,5 +1,5 @@
 pub mod Layout
 pub mod Tree
 pub mod Reading
-pub mod Accepted
+pub mod WellFormed
 pub mod Open

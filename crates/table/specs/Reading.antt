@@ -1,9 +1,9 @@
 -- When a table is refused, and what reading one answers: document 01's refusals 1 to 8, in the order of its table.
 -- Assumes nothing: these are definitions.
-use mathlib.Core.Bool.{Bool, true, false, not, cond, _&&_, _||_}
+use mathlib.Core.Bool.{Bool, false, not, cond, _&&_, _||_}
 use mathlib.Core.List.{List}
 use mathlib.Core.Path.{_≡_}
-use Prim.Native.Nat.{ℕ, zero, suc, _+_, _*_}
+use Prim.Native.Nat.{ℕ, zero, suc, _+_, _<_}
 use lib.Dec.{eqb, ltb}
 use lib.ListN.{length}
 use Rattle.answer.specs.Fields.{fields}
@@ -77,5 +77,12 @@ unfoldable pub reading : List ℕ → Answer
 reading t = cond (eqb (headerFault t) 0) (readFrom t 0 (count t)) (refused (headerFault t) 0)
 
 -- "A table is accepted when none of refusals 1 to 8 applies to it"
-abbrev pub Accepted : List ℕ → Type 0
-Accepted t = reading t .number ≡ 0
+pub record Accepted (t : List ℕ) : Type 0 where
+  pub length : lengthFault t ≡ false
+  pub version : versionFault t ≡ false
+  pub counts : countFault t ≡ false
+  pub kinds : (i : ℕ) → i < count t → kindFault t i ≡ false
+  pub spans : (i : ℕ) → i < count t → spanFault t i ≡ false
+  pub levels : (i : ℕ) → i < count t → levelFault t i ≡ false
+  pub ranges : (i : ℕ) → i < count t → rangesFault t i ≡ false
+  pub cards : (i : ℕ) → i < count t → cardFault t i ≡ false

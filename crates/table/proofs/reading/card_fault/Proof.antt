@@ -1,22 +1,18 @@
-use Rattle.table.specs.Reading.{cardFault}
+-- `table::reading::card_fault` meets its contract: each branch gives refusal 8's test for its kind of node.
+-- Assumes nothing.
 use mathlib.Core.Path.{sym, _∙_}
 use borrow.Author.Needs.{needs}
+use Rattle.table.specs.Reading.{cardFault}
 use Rattle.table.proofs.reading.card_fault.Statement.{statement}
 use Rattle.table.proofs.reading.card_fault.Tie as tie
-use Rattle.table.proofs.reading.card_fault.Reads as reads
-use Rattle.table.proofs.reading.card_fault.Lts as lts
-use Rattle.table.proofs.layout.card_at.Reads as card-at-reads
 
--- src/reading.rt:142:9
 card-at-requires : tie.Need-card-at-requires
 card-at-requires c κs = search needs
 
--- src/reading.rt:137:1
 returns : tie.Need-returns
 unfolding cardFault
 returns c = simp (sym (c .before .before .before .pre .1) ∙ c .if1 .taken, c .before .card-at .ensures .0)
 
--- src/reading.rt:137:1
 returns-2 : tie.Need-returns-2
 unfolding cardFault
 returns-2 c = simp (sym (c .before .before .before .pre .1) ∙ c .if1 .left, c .before .card-at .ensures .0)

@@ -1,33 +1,26 @@
-use Rattle.table.proofs.Faults.{count-none, count-many, count-other}
+-- `table::reading::count_fault` meets its contract: each branch gives refusal 3's test.
+-- Assumes nothing.
 use borrow.Author.Needs.{needs}
+use Rattle.table.proofs.Faults.{count-none, count-many, count-other}
 use Rattle.table.proofs.reading.count_fault.Statement.{statement}
 use Rattle.table.proofs.reading.count_fault.Tie as tie
-use Rattle.table.proofs.reading.count_fault.Reads as reads
-use Rattle.table.proofs.reading.count_fault.Lts as lts
-use Rattle.table.proofs.layout.count_at.Reads as count-at-reads
 
--- src/reading.rt:53:9
 count-at-requires : tie.Need-count-at-requires
 count-at-requires c κs = search needs
 
--- src/reading.rt:59:33
 mul-result : tie.Need-mul-result
 mul-result c = search needs
 
--- src/reading.rt:59:24
 add-result : tie.Need-add-result
 add-result c = search needs
 
--- src/reading.rt:49:1
 returns : tie.Need-returns
 returns c = count-none (c .before .before .before .args .table .now) (c .before .count-at .result) (c .before .count-at .ensures .0) (c .if1 .taken)
 
--- src/reading.rt:49:1
 returns-2 : tie.Need-returns-2
 returns-2 c =
     count-many (c .before .before .before .before .args .table .now) (c .before .before .count-at .result) (c .before .before .count-at .ensures .0) (c .before .if1 .left) (c .if2 .taken)
 
--- src/reading.rt:49:1
 returns-3 : tie.Need-returns-3
 returns-3 c =
     count-other (c .before .before .before .before .args .table .now) (c .before .before .count-at .result) (c .before .before .count-at .ensures .0) (c .before .if1 .left) (c .if2 .left)

@@ -1,13 +1,13 @@
-use Rattle.table.proofs.Climb.{deepest-here, deepest-next}
+-- `table::reading::depth_above` meets its contract: the levels passed so far have ended at or before node i.
+-- Assumes nothing.
+use mathlib.Core.Path.{_≡_, refl, sym, ap, _∙_}
+use Prim.Native.Nat.{_≤_}
+use native.Mathlib.Omega.{arith}
 use borrow.Author.Needs.{needs}
 use Rattle.table.specs.Open.{deepest}
-use native.Mathlib.Omega.{arith}
-use Prim.Native.Nat.{ℕ, _-_, _≤_}
-use mathlib.Core.Path.{_≡_, refl, sym, ap, _∙_}
+use Rattle.table.proofs.Climb.{deepest-here, deepest-next}
 use Rattle.table.proofs.reading.depth_above.Statement.{statement}
 use Rattle.table.proofs.reading.depth_above.Tie as tie
-use Rattle.table.proofs.reading.depth_above.Reads as reads
-use Rattle.table.proofs.reading.depth_above.Lts as lts
 
 abbrev Inv-loop : tie.InvT-loop
 Inv-loop ends depth i d₀ d = (d ≤ depth) × (deepest ends i depth ≡ deepest ends i d)
@@ -15,39 +15,31 @@ Inv-loop ends depth i d₀ d = (d ≤ depth) × (deepest ends i depth ≡ deepes
 abbrev μ-loop : tie.MeasureT-loop
 μ-loop ends depth i d₀ d = d
 
--- src/reading.rt:187:5
 loop-holds : tie.Need-loop-holds Inv-loop μ-loop
 loop-holds c = (omega arith, refl)
 
--- src/reading.rt:188:16
 mul-if1 : tie.Need-mul-if1 Inv-loop μ-loop
 mul-if1 c = search needs
 
--- src/reading.rt:188:16
 element-copy-out-if1 : tie.Need-element-copy-out-if1 Inv-loop μ-loop
 element-copy-out-if1 c = search needs
 
--- src/reading.rt:189:13
 returns : tie.Need-returns Inv-loop μ-loop
 returns c =
     let s = c .before .before .before .before .args in
     (sym (c .before .before .before .loop .inv .1 ∙ deepest-here (s .ends .now) (s .i) (c .before .before .before .loop .d) (c .before .before .loop-test .taken) (c .if1 .taken)), c .before .before .before .loop .inv .0)
 
--- src/reading.rt:191:9
 sub-d : tie.Need-sub-d Inv-loop μ-loop
 sub-d c = search needs
 
--- src/reading.rt:187:5
 loop-less : tie.Need-loop-less Inv-loop μ-loop
 loop-less c = search needs
 
--- src/reading.rt:187:5
 loop-again : tie.Need-loop-again Inv-loop μ-loop
 loop-again c =
     let s = c .before .before .before .before .args in
     (omega arith, c .before .before .before .loop .inv .1 ∙ deepest-next (s .ends .now) (s .i) (c .before .before .before .loop .d) (c .before .before .loop-test .taken) (c .if1 .left))
 
--- src/reading.rt:182:1
 returns-2 : tie.Need-returns-2 Inv-loop μ-loop
 returns-2 c =
     let s = c .before .before .args in

@@ -1,28 +1,22 @@
-use Rattle.table.proofs.Faults.{length-short, length-other}
+-- `table::reading::length_fault` meets its contract: each branch gives refusal 1's test.
+-- Assumes nothing.
 use borrow.Author.Needs.{needs}
+use Rattle.table.proofs.Faults.{length-short, length-other}
 use Rattle.table.proofs.reading.length_fault.Statement.{statement}
 use Rattle.table.proofs.reading.length_fault.Tie as tie
-use Rattle.table.proofs.reading.length_fault.Reads as reads
-use Rattle.table.proofs.reading.length_fault.Lts as lts
-use Rattle.table.proofs.layout.word_at.Reads as word-at-reads
 
--- src/reading.rt:36:24
 word-at-requires : tie.Need-word-at-requires
 word-at-requires c κs = search needs
 
--- src/reading.rt:36:24
 cast-result : tie.Need-cast-result
 cast-result c = search needs
 
--- src/reading.rt:36:24
 add-result : tie.Need-add-result
 add-result c = search needs
 
--- src/reading.rt:30:1
 returns : tie.Need-returns
 returns c = length-short (c .before .before .args .table .now) (c .if1 .taken)
 
--- src/reading.rt:30:1
 returns-2 : tie.Need-returns-2
 returns-2 c = length-other (c .before .before .before .args .table .now) (c .word-at .result) (c .word-at .ensures .0) (c .before .if1 .left)
 

@@ -1,45 +1,37 @@
-use Rattle.table.proofs.Faults.{fault-group, fault-kind}
-use Rattle.table.specs.Layout.{kind}
-use borrow.Author.Tests.{le-leb, lt-leb}
+-- `table::reading::node_fault` meets its contract: refusal 4, or the first of refusals 5 to 8 that applies.
+-- Assumes nothing.
+use mathlib.Core.Path.{sym}
 use native.Mathlib.Omega.{arith}
-use mathlib.Core.Path.{_≡_, refl, sym, _∙_}
+use borrow.Author.Tests.{le-leb, lt-leb}
 use borrow.Author.Needs.{needs}
+use Rattle.table.specs.Layout.{kind}
+use Rattle.table.proofs.Faults.{fault-group, fault-kind}
 use Rattle.table.proofs.reading.node_fault.Statement.{statement}
 use Rattle.table.proofs.reading.node_fault.Tie as tie
-use Rattle.table.proofs.reading.node_fault.Reads as reads
-use Rattle.table.proofs.reading.node_fault.Lts as lts
-use Rattle.table.proofs.layout.kind_at.Reads as kind-at-reads
-use Rattle.table.proofs.reading.fault_of.Reads as fault-of-reads
 
--- src/reading.rt:172:9
 kind-at-requires : tie.Need-kind-at-requires
 kind-at-requires c κs = search needs
 
--- src/reading.rt:174:18
 fault-of-requires : tie.Need-fault-of-requires
 fault-of-requires c κs =
     let s = c .before .before .before .args in
     (c .before .before .before .pre .0, ((sym (lt-leb 4 (kind (s .table .now) (s .i)) (omega (arith, c .before .kind-at .ensures, c .if1 .taken))), c .before .before .before .pre .1 .0), c .before .before .before .pre .1 .1))
 
--- src/reading.rt:175:18
 fault-of-requires-2 : tie.Need-fault-of-requires-2
 fault-of-requires-2 c κs =
     let s = c .before .before .before .before .args in
     (c .before .before .before .before .pre .0, ((sym (le-leb 4 (kind (s .table .now) (s .i)) (omega (arith, c .before .before .kind-at .ensures, c .before .if1 .left, c .if2 .taken))), c .before .before .before .before .pre .1 .0), c .before .before .before .before .pre .1 .1))
 
--- src/reading.rt:167:1
 returns : tie.Need-returns
 returns c =
     let s = c .before .before .before .before .args in
     fault-group (s .table .now) (s .i) (c .before .before .kind-at .result) (c .fault-of .result) (c .before .before .kind-at .ensures) (omega (arith, c .before .if1 .taken)) (c .fault-of .ensures)
 
--- src/reading.rt:167:1
 returns-2 : tie.Need-returns-2
 returns-2 c =
     let s = c .before .before .before .before .before .args in
     fault-group (s .table .now) (s .i) (c .before .before .before .kind-at .result) (c .fault-of2 .result) (c .before .before .before .kind-at .ensures) (omega (arith, c .before .if2 .taken)) (c .fault-of2 .ensures)
 
--- src/reading.rt:167:1
 returns-3 : tie.Need-returns-3
 returns-3 c =
     let s = c .before .before .before .before .args in

@@ -1,18 +1,15 @@
+-- `table::reading::odd_span` meets its contract: each branch gives the first two tests of refusal 5.
+-- Assumes nothing.
 use borrow.Author.Tests.{eq-eqb, ne-eqb}
 use Rattle.table.proofs.reading.odd_span.Statement.{statement}
 use Rattle.table.proofs.reading.odd_span.Tie as tie
-use Rattle.table.proofs.reading.odd_span.Reads as reads
-use Rattle.table.proofs.reading.odd_span.Lts as lts
 
--- src/reading.rt:79:1
 returns : tie.Need-returns
 returns c = simp (eq-eqb _ _ (c .if1 .taken))
 
--- src/reading.rt:79:1
 returns-2 : tie.Need-returns-2
 returns-2 c = simp (ne-eqb _ _ (c .before .if1 .left), c .if2 .taken)
 
--- src/reading.rt:79:1
 returns-3 : tie.Need-returns-3
 returns-3 c = simp (ne-eqb _ _ (c .before .if1 .left), c .if2 .left)
 

@@ -1,32 +1,24 @@
-use Rattle.table.proofs.Faults.{range-low, range-high}
+-- `table::reading::range_fault` meets its contract: each branch gives refusal 7's test in the field.
+-- Assumes nothing.
 use borrow.Author.Needs.{needs}
+use Rattle.table.proofs.Faults.{range-low, range-high}
 use Rattle.table.proofs.reading.range_fault.Statement.{statement}
 use Rattle.table.proofs.reading.range_fault.Tie as tie
-use Rattle.table.proofs.reading.range_fault.Reads as reads
-use Rattle.table.proofs.reading.range_fault.Lts as lts
-use Rattle.table.proofs.layout.high_at.Reads as high-at-reads
-use Rattle.table.proofs.layout.low_at.Reads as low-at-reads
-use Rattle.table.proofs.layout.maximum_at.Reads as maximum-at-reads
 
--- src/reading.rt:113:9
 high-at-requires : tie.Need-high-at-requires
 high-at-requires c κs = search needs
 
--- src/reading.rt:114:15
 low-at-requires : tie.Need-low-at-requires
 low-at-requires c κs = search needs
 
--- src/reading.rt:117:9
 maximum-at-requires : tie.Need-maximum-at-requires
 maximum-at-requires c κs = search needs
 
--- src/reading.rt:108:1
 returns : tie.Need-returns
 returns c =
     let s = c .before .before .before .before .args in
     range-low (s .table .now) (s .i) (s .field) (c .before .before .high-at .result) (c .before .low-at .result) (c .before .before .high-at .ensures) (c .before .low-at .ensures) (c .if1 .taken)
 
--- src/reading.rt:108:1
 returns-2 : tie.Need-returns-2
 returns-2 c =
     let s = c .before .before .before .before .before .args in

@@ -1,16 +1,15 @@
-use borrow.Author.Needs.{needs}
-use Rattle.table.proofs.Tests.{some-true, some-more}
-use Rattle.table.specs.Reading.{someBelow, rangeFault, rangesFault}
-use Rattle.answer.specs.Fields.{fields}
-use native.Mathlib.Omega.{arith}
-use Prim.Native.Nat.{ℕ, _-_, _≤_}
+-- `table::reading::ranges_fault` meets its contract: no field passed so far has a fault.
+-- Assumes nothing.
 use mathlib.Core.Bool.{false}
 use mathlib.Core.Path.{_≡_, refl, sym, ap, _∙_}
+use Prim.Native.Nat.{ℕ, _-_, _≤_}
+use native.Mathlib.Omega.{arith}
+use borrow.Author.Needs.{needs}
+use Rattle.answer.specs.Fields.{fields}
+use Rattle.table.specs.Reading.{someBelow, rangeFault, rangesFault}
+use Rattle.table.proofs.Tests.{some-true, some-more}
 use Rattle.table.proofs.reading.ranges_fault.Statement.{statement}
 use Rattle.table.proofs.reading.ranges_fault.Tie as tie
-use Rattle.table.proofs.reading.ranges_fault.Reads as reads
-use Rattle.table.proofs.reading.ranges_fault.Lts as lts
-use Rattle.table.proofs.reading.range_fault.Reads as range-fault-reads
 
 abbrev Inv-loop : tie.InvT-loop
 Inv-loop table i field₀ field = (field ≤ fields) × (someBelow field (rangeFault table i) ≡ false)
@@ -18,36 +17,29 @@ Inv-loop table i field₀ field = (field ≤ fields) × (someBelow field (rangeF
 abbrev μ-loop : tie.MeasureT-loop
 μ-loop table i field₀ field = fields - field
 
--- src/reading.rt:127:5
 loop-holds : tie.Need-loop-holds Inv-loop μ-loop
 loop-holds c = (omega arith, refl)
 
--- src/reading.rt:128:12
 range-fault-requires : tie.Need-range-fault-requires Inv-loop μ-loop
 range-fault-requires c κs = search needs
 
--- src/reading.rt:129:13
 returns : tie.Need-returns Inv-loop μ-loop
 unfolding rangesFault
 returns c =
     let s = c .before .before .before .before .before .args in
     sym (some-true (rangeFault (s .table .now) (s .i)) fields (c .before .before .before .loop .field) (c .before .before .loop-test .taken) (sym (c .before .range-fault .ensures) ∙ c .if1 .taken))
 
--- src/reading.rt:131:9
 add-field : tie.Need-add-field Inv-loop μ-loop
 add-field c = search needs
 
--- src/reading.rt:127:5
 loop-less : tie.Need-loop-less Inv-loop μ-loop
 loop-less c = search needs
 
--- src/reading.rt:127:5
 loop-again : tie.Need-loop-again Inv-loop μ-loop
 loop-again c =
     let s = c .before .before .before .before .before .args in
     (omega arith, some-more (rangeFault (s .table .now) (s .i)) (c .before .before .before .loop .field) (c .before .before .before .loop .inv .1) (sym (c .before .range-fault .ensures) ∙ c .if1 .left))
 
--- src/reading.rt:122:1
 returns-2 : tie.Need-returns-2 Inv-loop μ-loop
 unfolding rangesFault
 returns-2 c =

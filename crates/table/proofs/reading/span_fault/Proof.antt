@@ -1,42 +1,33 @@
-use Rattle.table.proofs.Faults.{span-odd, span-root, span-child}
+-- `table::reading::span_fault` meets its contract: each branch gives refusal 5's test.
+-- Assumes nothing.
 use native.Mathlib.Omega.{arith}
 use native.Mathlib.Nat.{pos-of-ne-zero}
-use mathlib.Core.Path.{_≡_, refl, sym, _∙_}
 use borrow.Author.Needs.{needs}
+use Rattle.table.proofs.Faults.{span-odd, span-root, span-child}
 use Rattle.table.proofs.reading.span_fault.Statement.{statement}
 use Rattle.table.proofs.reading.span_fault.Tie as tie
-use Rattle.table.proofs.reading.span_fault.Reads as reads
-use Rattle.table.proofs.reading.span_fault.Lts as lts
-use Rattle.table.proofs.layout.span_at.Reads as span-at-reads
-use Rattle.table.proofs.reading.odd_span.Reads as odd-span-reads
 
--- src/reading.rt:97:9
 span-at-requires : tie.Need-span-at-requires
 span-at-requires c κs = search needs
 
--- src/reading.rt:98:8
 odd-span-requires : tie.Need-odd-span-requires
 odd-span-requires c κs = search needs
 
--- src/reading.rt:103:17
 add-result : tie.Need-add-result
 add-result c = omega (arith, c .before .before .before .before .before .pre, c .before .before .before .span-at .ensures .1)
 
--- src/reading.rt:92:1
 returns : tie.Need-returns
 returns c =
     let s = c .before .before .before .before .args in
     span-odd (s .table .now) (s .i) (c .before .before .span-at .result) (s .rule) (s .above) (c .before .before .span-at .ensures .0) (c .before .before .before .before .pre .1 .0)
     (c .before .odd-span .result) (c .before .odd-span .ensures) (c .if1 .taken)
 
--- src/reading.rt:92:1
 returns-2 : tie.Need-returns-2
 returns-2 c =
     let s = c .before .before .before .before .before .args in
     span-root (s .table .now) (s .i) (c .before .before .before .span-at .result) (s .rule) (s .above) (c .before .before .before .span-at .ensures .0) (c .before .before .before .before .before .pre .1 .0)
     (c .before .before .odd-span .result) (c .before .before .odd-span .ensures) (c .before .if1 .left) (c .if2 .taken) (c .before .before .before .before .before .pre .1 .1)
 
--- src/reading.rt:92:1
 returns-3 : tie.Need-returns-3
 returns-3 c =
     let s = c .before .before .before .before .before .args in

@@ -1,16 +1,14 @@
-use Rattle.table.specs.Reading.{versionFault}
+-- `table::reading::version_fault` meets its contract: the byte compared is the version.
+-- Assumes nothing.
 use mathlib.Core.Path.{refl}
 use borrow.Author.Needs.{needs}
+use Rattle.table.specs.Reading.{versionFault}
 use Rattle.table.proofs.reading.version_fault.Statement.{statement}
 use Rattle.table.proofs.reading.version_fault.Tie as tie
-use Rattle.table.proofs.reading.version_fault.Reads as reads
-use Rattle.table.proofs.reading.version_fault.Lts as lts
 
--- src/reading.rt:45:5
 shared-slice-read-result : tie.Need-shared-slice-read-result
 shared-slice-read-result c = search needs
 
--- src/reading.rt:41:1
 returns : tie.Need-returns
 unfolding versionFault
 returns c = refl
