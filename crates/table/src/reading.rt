@@ -90,7 +90,7 @@ fn odd_span(span: usize, rule: bool) -> bool
 
 // Refusal 5, where the nodes that node i stands among end at above.
 fn span_fault(table: &[u8], i: usize, rule: bool, above: usize) -> bool
-    requires { ⌜ (i < 128) × (start (i + 1) ≤ length (now table)) ⌝ }
+    requires { ⌜ start (i + 1) ≤ length (now table) ⌝ }
     requires { ⌜ (rule ≡ isRule (now table) i) × EndAbove (now table) i above ⌝ }
     ensures { λ r. ⌜ r ≡ spanFault (now (table .entry)) i ⌝ }
 {
@@ -106,7 +106,7 @@ fn span_fault(table: &[u8], i: usize, rule: bool, above: usize) -> bool
 
 // Refusal 7 in one field.
 fn range_fault(table: &[u8], i: usize, field: usize) -> bool
-    requires { ⌜ (i < 128) × (start (i + 1) ≤ length (now table)) ⌝ }
+    requires { ⌜ start (i + 1) ≤ length (now table) ⌝ }
     requires { ⌜ field < fields ⌝ }
     ensures { λ r. ⌜ r ≡ rangeFault (now (table .entry)) i field ⌝ }
 {
@@ -120,7 +120,7 @@ fn range_fault(table: &[u8], i: usize, field: usize) -> bool
 
 // Refusal 7: a low over its high, or a high over the maximum.
 fn ranges_fault(table: &[u8], i: usize) -> bool
-    requires { ⌜ (i < 128) × (start (i + 1) ≤ length (now table)) ⌝ }
+    requires { ⌜ start (i + 1) ≤ length (now table) ⌝ }
     ensures { λ r. ⌜ r ≡ rangesFault (now (table .entry)) i ⌝ }
 {
     let mut field = 0;
@@ -135,7 +135,7 @@ fn ranges_fault(table: &[u8], i: usize) -> bool
 
 // Refusal 8: a rule with card 0, or a group with another.
 fn card_fault(table: &[u8], i: usize, rule: bool) -> bool
-    requires { ⌜ (i < 128) × (start (i + 1) ≤ length (now table)) ⌝ }
+    requires { ⌜ start (i + 1) ≤ length (now table) ⌝ }
     requires { ⌜ rule ≡ isRule (now table) i ⌝ }
     ensures { λ r. ⌜ r ≡ cardFault (now (table .entry)) i ⌝ }
 {
@@ -145,7 +145,7 @@ fn card_fault(table: &[u8], i: usize, rule: bool) -> bool
 
 // Refusals 5 to 8 of node i, under a node on level depth.
 fn fault_of(table: &[u8], i: usize, rule: bool, above: usize, depth: usize) -> u8
-    requires { ⌜ (i < 128) × (start (i + 1) ≤ length (now table)) ⌝ }
+    requires { ⌜ start (i + 1) ≤ length (now table) ⌝ }
     requires { ⌜ (rule ≡ isRule (now table) i) × EndAbove (now table) i above ⌝ }
     requires { ⌜ level (now table) i ≡ depth + 1 ⌝ }
     ensures { λ r. ⌜ r ≡ faultAfterKind (now (table .entry)) i ⌝ }
@@ -165,7 +165,7 @@ fn fault_of(table: &[u8], i: usize, rule: bool, above: usize, depth: usize) -> u
 
 // The number of the refusal of node i, or 0.
 fn node_fault(table: &[u8], i: usize, above: usize, depth: usize) -> u8
-    requires { ⌜ (i < 128) × (start (i + 1) ≤ length (now table)) ⌝ }
+    requires { ⌜ start (i + 1) ≤ length (now table) ⌝ }
     requires { ⌜ EndAbove (now table) i above × (level (now table) i ≡ depth + 1) ⌝ }
     ensures { λ r. ⌜ r ≡ nodeFault (now (table .entry)) i ⌝ }
 {

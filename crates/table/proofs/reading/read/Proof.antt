@@ -50,7 +50,7 @@ node-fault-requires c κs =
     let t = c .before .before .before .before .before .before .before .before .args .table .now in
     let h = headed t (header-passed t (sym (c .before .before .before .before .before .before .header-fault .ensures) ∙ c .before .before .before .before .before .if1 .left)) in
     let f = found t (c .before .before .before .before .count-at .result) (c .before .before .before .loop .ends) (c .before .before .before .loop .depth) (c .depth-above .result) (c .before .before .before .loop .i) (c .before .before .before .loop .inv) (c .before .before .loop-test .taken) (c .depth-above .ensures .0) in
-    ((omega (arith, h .few, c .before .before .before .before .count-at .ensures .0), omega (arith, h .records, c .before .before .before .before .count-at .ensures .0)), f)
+    (omega (arith, h .records, c .before .before .before .before .count-at .ensures .0), f)
 
 refused-requires-2 : tie.Need-refused-requires-2 Inv-loop μ-loop
 refused-requires-2 c κs = search needs
