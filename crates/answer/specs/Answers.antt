@@ -5,9 +5,13 @@ use Prim.Native.Nat.{ℕ, _-_}
 use lib.ListN.{length, replicate}
 use Rattle.answer.specs.declared.Answer.{Answer}
 
--- "A refusal has decision 0, count 0, the place below". The blank answer is `refused 0 0`.
+-- "A refusal has decision 0, count 0, the place below"
 abbrev pub refused : ℕ → ℕ → Answer
 refused number place = record { number = number; decision = 0; place = place; count = 0 }
+
+-- "an associated function making the blank answer": nothing refused, nothing to show
+abbrev pub blank : Answer
+blank = refused 0 0
 
 -- "a reading alone counts nodes, a build counts places used, both with decision 0"
 abbrev pub counted : ℕ → Answer

@@ -1,7 +1,7 @@
 // What every call shares: the answer it hands back, the request it is asked, and a lent list that is cleared.
 ghost use mathlib.Core.Path.{_≡_};
 ghost use lib.ListN.{length};
-ghost use Rattle.answer.specs.Answers.{refused, counted, ruled, zeros};
+ghost use Rattle.answer.specs.Answers.{refused, blank, counted, ruled, zeros};
 
 // How many fields a request has: subject, resource, action.
 pub const FIELDS: usize = 3;
@@ -18,7 +18,7 @@ pub struct Answer {
 impl Answer {
     // The blank answer: nothing refused, nothing to show.
     pub fn blank() -> Self
-        ensures { λ r. ⌜ r ≡ refused 0 0 ⌝ }
+        ensures { λ r. ⌜ r ≡ blank ⌝ }
     {
         Self {
             number: 0,
