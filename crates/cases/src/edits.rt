@@ -13,7 +13,8 @@ pub fn start(line: &[u8]) -> Draft {
         b'c' => tables::chain(size),
         b'b' => tables::bent(size),
         b't' => tables::twigs(),
-        _ => tables::nested(),
+        b'n' => tables::nested(),
+        _ => unknown(),
     }
 }
 
@@ -67,8 +68,14 @@ fn header_edited(draft: Draft, word: u8, value: u16, field: u16) -> Draft {
         b'w' => draft.pair(0, value),
         b'v' => draft.byte(2, low_byte(value)),
         b'n' => draft.pair(6, value),
-        _ => draft.byte(3 + field as usize, low_byte(value)),
+        b'm' => draft.byte(3 + field as usize, low_byte(value)),
+        _ => unknown(),
     }
+}
+
+// What a word that is not known makes: no table at all.
+fn unknown() -> Draft {
+    Draft::new(0, 0, 0, 0).cut(0)
 }
 
 fn short(value: usize) -> u16 {

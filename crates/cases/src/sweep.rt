@@ -51,6 +51,8 @@ const TWO_BYTES: u8 = 1;
 
 const LENGTH: u8 = 2;
 
+const SPANS: u8 = 3;
+
 pub fn cases(tally: Tally) -> Tally {
     let tally = of_t(tally, tables::t());
     let tally = swept(
@@ -64,7 +66,7 @@ pub fn cases(tally: Tally) -> Tally {
         tally,
         b"five groups from level 6 on, each span to 6:",
         tables::chain(10),
-        3,
+        SPANS,
         7 * 7 * 7 * 7 * 7,
     )
 }
@@ -107,7 +109,8 @@ fn changed(draft: Draft, way: u8, turn: usize) -> Draft {
         BYTE => draft.byte(turn / 256, (turn % 256) as u8),
         TWO_BYTES => two_bytes(draft, turn),
         LENGTH => draft.resize(turn),
-        _ => spanned(draft, turn),
+        SPANS => spanned(draft, turn),
+        _ => draft,
     }
 }
 
