@@ -4,7 +4,7 @@ use crate::tables;
 use crate::text;
 
 // The start: T, `only kind 4`, `flat 128`, `chain 8`, `bent 8`, `twigs` or `nested`.
-pub fn start(line: &[u8]) -> Draft {
+pub(crate) fn start(line: &[u8]) -> Draft {
     let size = short(text::number(line, 0).value);
     match text::byte(line, 0) {
         b'T' => tables::t(),
@@ -19,7 +19,7 @@ pub fn start(line: &[u8]) -> Draft {
 }
 
 // An edit is a word and one to three numbers.
-pub fn edited(draft: Draft, line: &[u8], at: usize) -> Draft {
+pub(crate) fn edited(draft: Draft, line: &[u8], at: usize) -> Draft {
     let first = text::number(line, at);
     let second = text::number(line, first.next);
     let third = text::number(line, second.next);

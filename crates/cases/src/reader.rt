@@ -3,13 +3,13 @@
 ghost use Prim.Native.Nat.{_<_};
 
 // What reading a table hands back: a refusal's number and place, or number 0 and place 0 with the count of nodes.
-pub struct Outcome {
+pub(crate) struct Outcome {
     pub number: usize,
     pub place: usize,
     pub count: usize,
 }
 
-pub fn accepted(count: usize) -> Outcome {
+pub(crate) fn accepted(count: usize) -> Outcome {
     Outcome {
         number: 0,
         place: 0,
@@ -17,7 +17,7 @@ pub fn accepted(count: usize) -> Outcome {
     }
 }
 
-pub fn refused(number: usize, place: usize) -> Outcome {
+pub(crate) fn refused(number: usize, place: usize) -> Outcome {
     Outcome {
         number,
         place,
@@ -26,7 +26,7 @@ pub fn refused(number: usize, place: usize) -> Outcome {
 }
 
 // Refusals 1, 2 and 3, then the nodes upward.
-pub fn read(table: &[u8]) -> Outcome {
+pub(crate) fn read(table: &[u8]) -> Outcome {
     let length = table.len();
     if length < 8 {
         return refused(1, 0);

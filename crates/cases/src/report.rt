@@ -6,14 +6,14 @@ use answer::Answer;
 use std::num::wrapping_add_usize;
 
 // How many cases there were, how many tables were swept, and how many of both differed.
-pub struct Tally {
+pub(crate) struct Tally {
     pub cases: usize,
     pub swept: usize,
     pub differences: usize,
 }
 
 impl Tally {
-    pub fn new() -> Self {
+    pub(crate) fn new() -> Self {
         Self {
             cases: 0,
             swept: 0,
@@ -22,7 +22,7 @@ impl Tally {
     }
 
     // A case whose name is written: the rest of its line, with what the library answers.
-    pub fn case(self, draft: Draft, expected: Outcome) -> Self {
+    pub(crate) fn case(self, draft: Draft, expected: Outcome) -> Self {
         let bytes = draft.bytes;
         let table = part(&bytes, draft.length);
         let answer = answered(table);
@@ -35,7 +35,7 @@ impl Tally {
         }
     }
 
-    pub fn added(self, cases: usize, swept: usize, differences: usize) -> Self {
+    pub(crate) fn added(self, cases: usize, swept: usize, differences: usize) -> Self {
         Self {
             cases: wrapping_add_usize(self.cases, cases),
             swept: wrapping_add_usize(self.swept, swept),
@@ -43,7 +43,7 @@ impl Tally {
         }
     }
 
-    pub fn print(self) {
+    pub(crate) fn print(self) {
         io::write_all(1, b"cases");
         item(self.cases);
         io::write_all(1, b" swept");
@@ -53,12 +53,12 @@ impl Tally {
 }
 
 // What the library answers: the only call of it.
-pub fn answered(table: &[u8]) -> Answer {
+pub(crate) fn answered(table: &[u8]) -> Answer {
     table::read(table)
 }
 
 // Whether an answer is an outcome, with decision 0.
-pub fn agree(answer: Answer, outcome: Outcome) -> bool {
+pub(crate) fn agree(answer: Answer, outcome: Outcome) -> bool {
     answer.number as usize == outcome.number
         && answer.place == outcome.place
         && answer.count == outcome.count
@@ -66,7 +66,7 @@ pub fn agree(answer: Answer, outcome: Outcome) -> bool {
 }
 
 // The first bytes.
-pub fn part(bytes: &[u8], length: usize) -> &[u8] {
+pub(crate) fn part(bytes: &[u8], length: usize) -> &[u8] {
     if length > bytes.len() {
         return bytes;
     }
@@ -74,13 +74,13 @@ pub fn part(bytes: &[u8], length: usize) -> &[u8] {
 }
 
 // A number after a space.
-pub fn item(value: usize) {
+pub(crate) fn item(value: usize) {
     io::write_all(1, b" ");
     io::print_decimal(1, value as u64);
 }
 
 // The end of a line.
-pub fn print_differences(differences: usize) {
+pub(crate) fn print_differences(differences: usize) {
     io::write_all(1, b" differences");
     item(differences);
     io::write_all(1, b"\n");

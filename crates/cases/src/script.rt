@@ -10,7 +10,7 @@ use crate::report::Tally;
 use crate::text;
 use std::num::wrapping_add_usize;
 
-pub fn cases(tally: Tally, script: &[u8]) -> Tally {
+pub(crate) fn cases(tally: Tally, script: &[u8]) -> Tally {
     let mut tested = tally;
     let mut from = 0;
     while from < script.len() {

@@ -7,7 +7,7 @@ use crate::report::Tally;
 use crate::tables;
 use std::num::wrapping_add_usize;
 
-pub struct Sweep {
+pub(crate) struct Sweep {
     pub outcomes: [usize; 9],
     pub differences: usize,
 }
@@ -53,7 +53,7 @@ const LENGTH: u8 = 2;
 
 const SPANS: u8 = 3;
 
-pub fn cases(tally: Tally) -> Tally {
+pub(crate) fn cases(tally: Tally) -> Tally {
     let tally = of_t(tally, tables::t());
     let tally = swept(
         tally,

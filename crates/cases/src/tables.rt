@@ -74,7 +74,7 @@ const T_RECORDS: [[u8; 11]; 5] = [
     ],
 ];
 
-pub fn t() -> Draft {
+pub(crate) fn t() -> Draft {
     let mut draft = Draft::new(5, 0, 0, 0);
     let mut at = 0;
     while at < 63 {
@@ -94,13 +94,13 @@ fn t_byte(at: usize) -> u8
 }
 
 // One node of a kind, with the card 1 for a rule.
-pub fn only(kind: u16) -> Draft {
+pub(crate) fn only(kind: u16) -> Draft {
     let card = if kind < 4 { 0 } else { 1 };
     Draft::new(1, 0, 0, 0).record(0, (kind % 256) as u8, 1, card)
 }
 
 // A group at node 1 that is the parent of a group at node 2, and a rule at node 3, under the root.
-pub fn twigs() -> Draft {
+pub(crate) fn twigs() -> Draft {
     Draft::new(4, 0, 0, 0)
         .record(0, 0, 4, 0)
         .record(1, 1, 2, 0)
@@ -109,7 +109,7 @@ pub fn twigs() -> Draft {
 }
 
 // A group as the root, over this many nodes in all, the others rules right under it.
-pub fn flat(count: u16) -> Draft {
+pub(crate) fn flat(count: u16) -> Draft {
     let mut draft = Draft::new(count, 0, 0, 0).record(0, 0, count, 0);
     let mut node = 1;
     while node < count {
@@ -120,12 +120,12 @@ pub fn flat(count: u16) -> Draft {
 }
 
 // One path from the root down to this level, which ends in a rule.
-pub fn chain(levels: u16) -> Draft {
+pub(crate) fn chain(levels: u16) -> Draft {
     path(Draft::new(levels, 0, 0, 0), 0, levels)
 }
 
 // A rule, a path down to this level, and a rule again, all under the root.
-pub fn bent(levels: u16) -> Draft {
+pub(crate) fn bent(levels: u16) -> Draft {
     let count = wrapping_add_u16(levels, 2);
     let draft = Draft::new(count, 0, 0, 0)
         .record(0, 3, count, 0)
@@ -205,7 +205,7 @@ const SPANS: [u8; 24] = [
     1,
 ];
 
-pub fn nested() -> Draft {
+pub(crate) fn nested() -> Draft {
     let mut draft = Draft::new(24, 9, 5, 255);
     let mut node: u8 = 0;
     while node < 24 {

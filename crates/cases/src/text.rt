@@ -3,13 +3,13 @@ ghost use Prim.Native.Nat.{_≤_};
 ghost use lib.ListN.{length};
 
 // A number, and where the text goes on after it.
-pub struct Parsed {
+pub(crate) struct Parsed {
     pub value: usize,
     pub next: usize,
 }
 
 // The first place from here on that holds one of two bytes, or the text's end.
-pub fn find(text: &[u8], from: usize, one: u8, other: u8) -> usize
+pub(crate) fn find(text: &[u8], from: usize, one: u8, other: u8) -> usize
     requires { ⌜ from ≤ length (now text) ⌝ }
     ensures { λ r. ⌜ from ≤ r ⌝ }
     ensures { λ r. ⌜ r ≤ length (now (text .entry)) ⌝ }
@@ -29,7 +29,7 @@ pub fn find(text: &[u8], from: usize, one: u8, other: u8) -> usize
 }
 
 // The first number from here on, or 0 at the text's end.
-pub fn number(text: &[u8], from: usize) -> Parsed {
+pub(crate) fn number(text: &[u8], from: usize) -> Parsed {
     let mut at = from;
     while at < text.len() {
         if digit(text[at]) < 10 {
@@ -70,12 +70,12 @@ fn digit(byte: u8) -> usize
 }
 
 // A byte, or 0 past the end.
-pub fn byte(text: &[u8], at: usize) -> u8 {
+pub(crate) fn byte(text: &[u8], at: usize) -> u8 {
     if at < text.len() { text[at] } else { 0 }
 }
 
 // The bytes from one place up to another.
-pub fn between(text: &[u8], from: usize, end: usize) -> &[u8]
+pub(crate) fn between(text: &[u8], from: usize, end: usize) -> &[u8]
     requires { ⌜ from ≤ end ⌝ }
     requires { ⌜ end ≤ length (now text) ⌝ }
 {
