@@ -1,7 +1,7 @@
 -- Laws of refusals 1 to 8, one for each way through the code.
 -- Assumes nothing.
 use mathlib.Core.Path.{_≡_, sym, ap, _∙_}
-use mathlib.Core.Bool.{Bool, true, false, not, cond, _&&_, _||_}
+use mathlib.Core.Bool.{Bool, true, false, not, cond, _||_}
 use mathlib.Core.List.{List}
 use Prim.Native.Nat.{ℕ, _+_, _≤_, _<_}
 use native.Mathlib.Omega.{arith}
@@ -11,7 +11,7 @@ use lib.ListN.{length}
 use Rattle.table.specs.Layout.{bytesAfter, count, header, start, maximum, kind, span, low, high}
 use Rattle.table.specs.Tree.{isRule, endOf, parent}
 use Rattle.table.specs.Open.{EndAbove}
-use Rattle.table.specs.Reading.{lengthFault, countFault, kindFault, spanFault, rangeFault, faultAfterKind, nodeFault}
+use Rattle.table.specs.Reading.{lengthFault, countFault, kindFault, oddSpan, wrongEnd, spanFault, rangeFault, faultAfterKind, nodeFault}
 use Rattle.table.proofs.Tests.{neither}
 
 module _ (t : List ℕ) where
@@ -47,31 +47,33 @@ module _ (t : List ℕ) where
 
   module _ (i : ℕ) where
     -- refusal 5
-    module _ (s : ℕ) (rule : Bool) (above : ℕ) (es : s ≡ span t i) (er : rule ≡ isRule t i) where
-      abbrev reach : Bool
-      reach = cond (eqb i 0) (not (eqb (span t i) (count t))) (ltb (endOf t (parent t i)) (endOf t i))
 
-      span-by : (b : Bool) → b ≡ (eqb s 0 || (rule && not (eqb s 1))) → spanFault t i ≡ (b || reach)
+    pub wrong-end-root : i ≡ 0 → wrongEnd t i ≡ not (eqb (span t i) (count t))
+    wrong-end-root z =
+        ap (λ b. cond b (not (eqb (span t i) (count t))) (ltb (endOf t (parent t i)) (endOf t i))) (eq-eqb i 0 z)
+
+    pub wrong-end-child : 0 < i → wrongEnd t i ≡ ltb (endOf t (parent t i)) (endOf t i)
+    wrong-end-child l =
+        ap (λ b. cond b (not (eqb (span t i) (count t))) (ltb (endOf t (parent t i)) (endOf t i)))
+        (ne-eqb i 0 (λ q. omega arith))
+
+    module _ (s : ℕ) (rule : Bool) (es : s ≡ span t i) (er : rule ≡ isRule t i) (odd : Bool) (eo : odd ≡ oddSpan s rule) where
+      span-by : spanFault t i ≡ (odd || wrongEnd t i)
       unfolding spanFault
-      span-by b e = simp (e, es, er)
+      span-by = simp (eo, es, er)
 
-      pub span-odd : (b : Bool) → b ≡ (eqb s 0 || (rule && not (eqb s 1))) → b ≡ true → true ≡ spanFault t i
-      span-odd b e h = sym (span-by b e ∙ ap (λ b. b || reach) h)
+      pub span-odd : odd ≡ true → true ≡ spanFault t i
+      span-odd h = sym (span-by ∙ ap (λ b. b || wrongEnd t i) h)
 
-      pub span-root : (b : Bool) → b ≡ (eqb s 0 || (rule && not (eqb s 1))) → b ≡ false → i ≡ 0 → EndAbove t i above →
-          not (eqb s above) ≡ spanFault t i
-      span-root b e h z a =
-          sym (span-by b e ∙ ap (λ b. b || reach) h
-          ∙ ap (λ b. cond b (not (eqb (span t i) (count t))) (ltb (endOf t (parent t i)) (endOf t i))) (eq-eqb i 0 z)
+      pub span-root : odd ≡ false → i ≡ 0 → (above : ℕ) → EndAbove t i above → not (eqb s above) ≡ spanFault t i
+      span-root h z above a =
+          sym (span-by ∙ ap (λ b. b || wrongEnd t i) h ∙ wrong-end-root z
           ∙ ap (λ n. not (eqb (span t i) n)) (sym (a .root z)) ∙ ap (λ n. not (eqb n above)) (sym es))
 
-      pub span-child : (b : Bool) → b ≡ (eqb s 0 || (rule && not (eqb s 1))) → b ≡ false → 0 < i → EndAbove t i above →
-          ltb above (i + s) ≡ spanFault t i
-      span-child b e h z a =
-          sym (span-by b e ∙ ap (λ b. b || reach) h
-          ∙ ap (λ b. cond b (not (eqb (span t i) (count t))) (ltb (endOf t (parent t i)) (endOf t i)))
-          (ne-eqb i 0 (λ q. omega arith))
-          ∙ ap (λ n. ltb n (endOf t i)) (sym (a .child z)) ∙ ap (λ n. ltb above (i + n)) (sym es))
+      pub span-child : odd ≡ false → 0 < i → (above : ℕ) → EndAbove t i above → ltb above (i + s) ≡ spanFault t i
+      span-child h l above a =
+          sym (span-by ∙ ap (λ b. b || wrongEnd t i) h ∙ wrong-end-child l
+          ∙ ap (λ n. ltb n (endOf t i)) (sym (a .child l)) ∙ ap (λ n. ltb above (i + n)) (sym es))
 
     -- refusal 7
     module _ (f h l : ℕ) (eh : h ≡ high t i f) (el : l ≡ low t i f) where
@@ -84,9 +86,9 @@ module _ (t : List ℕ) where
       range-high m em g = simp (le-ltb (high t i f) (low t i f) (omega arith), em, eh)
 
     -- refusals 4 to 8 in order
-    pub fault-group : (k d : ℕ) → k ≡ kind t i → k ≤ 5 → d ≡ faultAfterKind t i → d ≡ nodeFault t i
+    pub fault-later : (k d : ℕ) → k ≡ kind t i → k ≤ 5 → d ≡ faultAfterKind t i → d ≡ nodeFault t i
     unfolding nodeFault kindFault
-    fault-group k d e l h = h ∙ sym (ap (λ b. cond b 4 (faultAfterKind t i)) (le-ltb 5 (kind t i) (omega arith)))
+    fault-later k d e l h = h ∙ sym (ap (λ b. cond b 4 (faultAfterKind t i)) (le-ltb 5 (kind t i) (omega arith)))
 
     pub fault-kind : (k : ℕ) → k ≡ kind t i → 5 < k → 4 ≡ nodeFault t i
     unfolding nodeFault kindFault

@@ -1,19 +1,17 @@
 -- What reading answers is the first refusal in document 01's order, or the number of nodes where none applies.
 -- Assumes nothing.
-use mathlib.Core.Path.{_≡_, refl, ap}
-use mathlib.Core.Bool.{cond}
+use mathlib.Core.Path.{_≡_, refl}
 use mathlib.Core.Logic.{⊎-elim}
 use mathlib.Core.List.{List}
 use Prim.Native.Nat.{ℕ, zero, suc, _+_, _<_}
 use native.Mathlib.Nat.{eq-zero-or-pos}
 use native.Mathlib.Omega.{arith}
 use borrow.Author.Count.{below-more}
-use borrow.Author.Tests.{eq-eqb, ne-eqb}
 use Rattle.answer.specs.Answers.{refused, counted}
 use Rattle.answer.specs.declared.Answer.{Answer}
 use Rattle.table.specs.Layout.{count}
 use Rattle.table.specs.Reading.{headerFault, nodeFault, readFrom, reading, Accepted}
-use Rattle.table.proofs.Header.{header-passed, accepted-header, no-header-fault, read-header, read-nodes}
+use Rattle.table.proofs.Header.{header-passed, accepted-header, no-header-fault, read-header, read-nodes, read-on, read-stop}
 use Rattle.table.proofs.Good.{node-passed, accepted-node, no-fault}
 
 -- "Order: 1, 2, 3; then nodes upward, lowest number first within a node": the one answer that this leaves for a table
@@ -29,10 +27,10 @@ module _ (t : List ℕ) where
   nodes h (suc k) i e b =
       ⊎-elim
       (λ (z : nodeFault t i ≡ 0).
-      rw (ap (λ b. cond b (readFrom t (i + 1) k) (refused (nodeFault t i) i)) (eq-eqb (nodeFault t i) 0 z))
+      rw (read-on t i k z)
       (nodes h k (i + 1) (omega arith) (below-more (λ j. nodeFault t j ≡ 0) i b z)))
       (λ (z : 0 < nodeFault t i).
-      rw (ap (λ b. cond b (readFrom t (i + 1) k) (refused (nodeFault t i) i)) (ne-eqb (nodeFault t i) 0 (λ q. omega arith)))
+      rw (read-stop t i k (λ q. omega arith))
       (node i h (omega arith) b z))
       (eq-zero-or-pos (nodeFault t i))
 

@@ -1,17 +1,17 @@
 -- What a node that none of refusals 4 to 8 applies to is like.
 -- Assumes nothing.
 use mathlib.Core.Path.{_≡_, sym, ap, _∙_}
-use mathlib.Core.Bool.{Bool, false, not, cond, _&&_, _||_}
+use mathlib.Core.Bool.{false, not, cond, _&&_}
 use mathlib.Core.List.{List}
 use Prim.Native.Nat.{ℕ, _≤_, _<_}
 use native.Mathlib.Nat.{pos-of-ne-zero}
-use native.Mathlib.Omega.{arith}
-use borrow.Author.Tests.{ltb-false, eqb-true, eqb-false, not-false, eq-eqb, ne-eqb, le-leb, lt-leb}
+use borrow.Author.Tests.{ltb-false, eqb-true, eqb-false, not-false, le-leb, lt-leb}
 use lib.Dec.{ltb, eqb, lit<}
 use Rattle.answer.specs.Fields.{fields}
 use Rattle.table.specs.Layout.{maximum, count, kind, span, card, low, high}
 use Rattle.table.specs.Tree.{isRule, endOf, parent, level}
-use Rattle.table.specs.Reading.{kindFault, spanFault, levelFault, rangeFault, rangesFault, cardFault, faultAfterKind, nodeFault, Accepted}
+use Rattle.table.specs.Reading.{kindFault, oddSpan, wrongEnd, spanFault, levelFault, rangeFault, rangesFault, cardFault, faultAfterKind, nodeFault, Accepted}
+use Rattle.table.proofs.Faults.{wrong-end-root, wrong-end-child}
 use Rattle.table.proofs.Tests.{neither, not-chosen, none-below}
 
 -- none of refusals 4 to 8 applies to node i
@@ -58,13 +58,10 @@ pub record Good (t : List ℕ) (i : ℕ) : Type 0 where
   pub plain : kind t i < 4 → card t i ≡ 0
 
 module _ (t : List ℕ) (i : ℕ) where
-  abbrev reach : Bool
-  reach = cond (eqb i 0) (not (eqb (span t i) (count t))) (ltb (endOf t (parent t i)) (endOf t i))
-
-  span-parts : spanFault t i ≡ false → (eqb (span t i) 0 ≡ false) × ((isRule t i && not (eqb (span t i) 1)) ≡ false) × (reach ≡ false)
+  span-parts : spanFault t i ≡ false → (eqb (span t i) 0 ≡ false) × ((isRule t i && not (eqb (span t i) 1)) ≡ false) × (wrongEnd t i ≡ false)
   unfolding spanFault
   span-parts e =
-      let a = neither (eqb (span t i) 0 || (isRule t i && not (eqb (span t i) 1))) reach e in
+      let a = neither (oddSpan (span t i) (isRule t i)) (wrongEnd t i) e in
       let b = neither (eqb (span t i) 0) (isRule t i && not (eqb (span t i) 1)) (a .0) in
       (b .0, b .1, a .1)
 
@@ -107,10 +104,8 @@ module _ (t : List ℕ) (i : ℕ) where
         spans = pos-of-ne-zero (eqb-false (span t i) 0 (p .0));
         rules = λ h. eqb-true (span t i) 1
             (not-false _ (sym (ap (λ b. b && not (eqb (span t i) 1)) (le-leb 4 (kind t i) h)) ∙ p .1));
-        root = λ z. eqb-true _ _
-            (not-false _ (sym (ap (λ b. cond b (not (eqb (span t i) (count t))) (ltb (endOf t (parent t i)) (endOf t i))) (eq-eqb i 0 z)) ∙ p .2));
-        inside = λ z. ltb-false _ _
-            (sym (ap (λ b. cond b (not (eqb (span t i) (count t))) (ltb (endOf t (parent t i)) (endOf t i))) (ne-eqb i 0 (λ q. omega arith))) ∙ p .2);
+        root = λ z. eqb-true _ _ (not-false _ (sym (wrong-end-root t i z) ∙ p .2));
+        inside = λ l. ltb-false _ _ (sym (wrong-end-child t i l) ∙ p .2);
         levels = level-part (e .level);
         rising = λ f h. range-parts f (ranges-parts (e .ranges) f h) .0;
         within = λ f h. range-parts f (ranges-parts (e .ranges) f h) .1;

@@ -1,16 +1,16 @@
--- What a table that none of refusals 1 to 3 applies to is like, and what reading answers by them.
+-- What a table that none of refusals 1 to 3 applies to is like, and what reading answers by the header and node by node.
 -- Assumes nothing.
 use mathlib.Core.Path.{_≡_, ap}
 use mathlib.Core.Bool.{false, not, cond, _||_}
 use mathlib.Core.List.{List}
-use Prim.Native.Nat.{ℕ, _≤_}
+use Prim.Native.Nat.{ℕ, suc, _+_, _≤_}
 use native.Mathlib.Nat.{pos-of-ne-zero}
 use borrow.Author.Tests.{ltb-false, eqb-true, eqb-false, not-false, eq-eqb, ne-eqb}
 use lib.Dec.{ltb, eqb, lit<}
 use lib.ListN.{length}
 use Rattle.answer.specs.Answers.{refused}
 use Rattle.table.specs.Layout.{count, header, start}
-use Rattle.table.specs.Reading.{lengthFault, versionFault, countFault, headerFault, readFrom, reading, Accepted}
+use Rattle.table.specs.Reading.{lengthFault, versionFault, countFault, headerFault, nodeFault, readFrom, reading, Accepted}
 use Rattle.table.proofs.Tests.{neither, not-chosen}
 use Rattle.table.proofs.Faults.{length-passed}
 
@@ -61,3 +61,11 @@ module _ (t : List ℕ) where
   pub read-nodes : headerFault t ≡ 0 → reading t ≡ readFrom t 0 (count t)
   unfolding reading
   read-nodes h = ap (λ b. cond b (readFrom t 0 (count t)) (refused (headerFault t) 0)) (eq-eqb (headerFault t) 0 h)
+
+  -- a node that passes leaves the answer to those after it
+  pub read-on : (i k : ℕ) → nodeFault t i ≡ 0 → readFrom t i (suc k) ≡ readFrom t (i + 1) k
+  read-on i k e = ap (λ b. cond b (readFrom t (i + 1) k) (refused (nodeFault t i) i)) (eq-eqb (nodeFault t i) 0 e)
+
+  -- a node that does not gives it
+  pub read-stop : (i k : ℕ) → (nodeFault t i ≡ 0 → ⊥) → readFrom t i (suc k) ≡ refused (nodeFault t i) i
+  read-stop i k e = ap (λ b. cond b (readFrom t (i + 1) k) (refused (nodeFault t i) i)) (ne-eqb (nodeFault t i) 0 e)

@@ -1,13 +1,11 @@
 -- The pass over the nodes: what it holds before each node, what that says of the node, and how it goes on.
 -- Assumes nothing.
 use mathlib.Core.Path.{_≡_, refl, sym, ap, _∙_}
-use mathlib.Core.Bool.{cond}
 use mathlib.Core.Logic.{⊎-elim}
 use mathlib.Core.List.{List}
 use Prim.Native.Nat.{ℕ, zero, suc, _+_, _-_, _≤_, _<_}
 use native.Mathlib.Nat.{eq-zero-or-pos}
 use native.Mathlib.Omega.{arith}
-use borrow.Author.Tests.{eq-eqb, ne-eqb}
 use lib.ListN.{length, getD, set, length-set}
 use lib.Seq.{getD-set-same, getD-set-other}
 use Rattle.answer.specs.Answers.{refused, counted}
@@ -17,24 +15,10 @@ use Rattle.table.specs.Open.{deepest, EndAbove}
 use Rattle.table.specs.Reading.{headerFault, nodeFault, readFrom, reading}
 use Rattle.table.proofs.Tree.{level-root, level-child, above-trans, above-level}
 use Rattle.table.proofs.Climb.{Open, climb}
-use Rattle.table.proofs.Header.{read-nodes}
+use Rattle.table.proofs.Header.{read-nodes, read-on, read-stop}
 use Rattle.table.proofs.Good.{good, node-passed}
 
 module _ (t : List ℕ) (n : ℕ) where
-  -- a node that passes leaves the answer to those after it
-  pub read-next : (i : ℕ) → i < n → nodeFault t i ≡ 0 → readFrom t i (n - i) ≡ readFrom t (i + 1) (n - (i + 1))
-  read-next i l e =
-      let z : n - i ≡ suc (n - (i + 1)) = omega arith in
-      ap (readFrom t i) z
-      ∙ ap (λ b. cond b (readFrom t (i + 1) (n - (i + 1))) (refused (nodeFault t i) i)) (eq-eqb (nodeFault t i) 0 e)
-
-  -- a node that does not gives it
-  pub read-stop : (i : ℕ) → i < n → (nodeFault t i ≡ 0 → ⊥) → readFrom t i (n - i) ≡ refused (nodeFault t i) i
-  read-stop i l e =
-      let z : n - i ≡ suc (n - (i + 1)) = omega arith in
-      ap (readFrom t i) z
-      ∙ ap (λ b. cond b (readFrom t (i + 1) (n - (i + 1))) (refused (nodeFault t i) i)) (ne-eqb (nodeFault t i) 0 e)
-
   -- Before node i: all nodes before it pass, and where there are some, the ends are those of the last of them and of the nodes above it.
   pub record Passed (ends : List ℕ) (depth i : ℕ) : Type 0 where
     pub whole : n ≡ count t
@@ -80,28 +64,27 @@ module _ (t : List ℕ) (n : ℕ) where
           omega (arith, level-child t (suc p) (omega arith)),
         )
 
-    -- the ends with node i's own, at its level
-    opened : (i e : ℕ) → Passed ends depth i → i < n → r ≡ deepest ends i depth → level t i ≡ r + 1 → r < 8 → e ≡ endOf t i →
-        Open t (set ends (r + 1) e) i
-    opened zero e s l er el lr ee = record { held = own }
-      where
-        own : (a : ℕ) → Above t 0 a → getD (set ends (r + 1) e) (level t a) 0 ≡ endOf t a
-        own a itself = ap (λ k. getD (set ends (r + 1) e) k 0) el ∙ getD-set-same ends (r + 1) e 0 (omega (arith, s .size)) ∙ ee
-        own a (further h u) = absurd (omega arith)
-    opened (suc p) e s l er el lr ee = record { held = own }
-      where
-        o : (depth ≡ level t p) × Open t ends p
-        o = s .last p refl
+    -- node i's own end, stored at its level
+    own : (i e : ℕ) → length ends ≡ 9 → level t i ≡ r + 1 → r < 8 → e ≡ endOf t i → getD (set ends (r + 1) e) (level t i) 0 ≡ endOf t i
+    own i e s el lr ee = ap (λ k. getD (set ends (r + 1) e) k 0) el ∙ getD-set-same ends (r + 1) e 0 (omega arith) ∙ ee
 
-        c : (deepest ends (suc p) (level t p) ≡ level t (parent t (suc p))) × Above t p (parent t (suc p))
-        c = climb t ends p (o .1) (omega (arith, s .whole, s .root (omega arith)))
+    -- the ends with it are those of node i and of the nodes above it
+    opened : (i e : ℕ) → Passed ends depth i → i < n → level t i ≡ r + 1 → r < 8 → e ≡ endOf t i → Open t (set ends (r + 1) e) i
+    opened zero e s l el lr ee = record { held = held }
+      where
+        held : (a : ℕ) → Above t 0 a → getD (set ends (r + 1) e) (level t a) 0 ≡ endOf t a
+        held a itself = own 0 e (s .size) el lr ee
+        held a (further h u) = absurd (omega arith)
+    opened (suc p) e s l el lr ee = record { held = held }
+      where
+        o : Open t ends p
+        o = s .last p refl .1
 
-        own : (a : ℕ) → Above t (suc p) a → getD (set ends (r + 1) e) (level t a) 0 ≡ endOf t a
-        own a itself = ap (λ k. getD (set ends (r + 1) e) k 0) el ∙ getD-set-same ends (r + 1) e 0 (omega (arith, s .size)) ∙ ee
-        own a (further h u) =
-            getD-set-other ends (r + 1) (level t a) e 0
-            (λ q. omega (arith, above-level t u, level-child t (suc p) h))
-            ∙ o .1 .held a (above-trans t (c .1) u)
+        held : (a : ℕ) → Above t (suc p) a → getD (set ends (r + 1) e) (level t a) 0 ≡ endOf t a
+        held a itself = own (suc p) e (s .size) el lr ee
+        held a (further h u) =
+            getD-set-other ends (r + 1) (level t a) e 0 (λ q. omega (arith, above-level t u, level-child t (suc p) h))
+            ∙ o .held a (above-trans t (climb t ends p o (omega (arith, s .whole, s .root (omega arith))) .1) u)
 
     pub next : (i e : ℕ) → Passed ends depth i → i < n → r ≡ deepest ends i depth → nodeFault t i ≡ 0 → e ≡ endOf t i →
         Passed (set ends (r + 1) e) (r + 1) (i + 1)
@@ -119,16 +102,18 @@ module _ (t : List ℕ) (n : ℕ) where
           root = λ _. ⊎-elim (λ (z : i ≡ 0). ap (span t) (sym z) ∙ g .root z) (λ (z : 0 < i). s .root z) (eq-zero-or-pos i);
           last = λ p q.
               let z : i ≡ p = omega arith in
-              (sym (f .1) ∙ ap (level t) z, rw z at (opened i e s l er (f .1) (omega arith) ee));
-          rest = s .rest ∙ read-next i l ef;
+              (sym (f .1) ∙ ap (level t) z, rw z at (opened i e s l (f .1) (omega arith) ee));
+          rest = let z : n - i ≡ suc (n - (i + 1)) = omega arith in s .rest ∙ ap (readFrom t i) z ∙ read-on t i (n - (i + 1)) ef;
         }
 
     -- a node that is refused ends the reading
     pub stopped : (i f : ℕ) → headerFault t ≡ 0 → Passed ends depth i → i < n → f ≡ nodeFault t i → (f ≡ 0 → ⊥) →
         refused f i ≡ reading t
     stopped i f h s l e ne =
+        let z : n - i ≡ suc (n - (i + 1)) = omega arith in
         ap (λ k. refused k i) e
-        ∙ sym (read-nodes t h ∙ ap (readFrom t 0) (sym (s .whole)) ∙ s .rest ∙ read-stop i l (λ z. ne (e ∙ z)))
+        ∙ sym (read-nodes t h ∙ ap (readFrom t 0) (sym (s .whole)) ∙ s .rest ∙ ap (readFrom t i) z
+        ∙ read-stop t i (n - (i + 1)) (λ z. ne (e ∙ z)))
 
     -- so does the last node
     pub finished : (i : ℕ) → headerFault t ≡ 0 → Passed ends depth i → n ≤ i → counted n ≡ reading t

@@ -21,17 +21,13 @@ module _ (t : List ℕ) where
   latest-next i n h = ap (λ b. cond b n (latest t i n)) (le-ltb i (endOf t n) h)
 
   latest-below : (i n : ℕ) → latest t i (suc n) ≤ n
-  latest-below i n =
-      ⊎-elim (λ (h : i < endOf t n). omega (arith, latest-here i n h))
-      (λ (h : endOf t n ≤ i). omega (arith, latest-next i n h, before n))
-      (lt-or-ge i (endOf t n))
-    where
-      before : (n : ℕ) → latest t i n ≤ n
-      before zero = omega arith
-      before (suc n) =
-          ⊎-elim (λ (h : i < endOf t n). omega (arith, latest-here i n h))
-          (λ (h : endOf t n ≤ i). omega (arith, latest-next i n h, before n))
-          (lt-or-ge i (endOf t n))
+  latest-below i zero =
+      ⊎-elim (λ (h : i < endOf t 0). omega (arith, latest-here i 0 h)) (λ (h : endOf t 0 ≤ i). omega (arith, latest-next i 0 h)) (lt-or-ge i (endOf t 0))
+  latest-below i (suc n) =
+      ⊎-elim
+      (λ (h : i < endOf t (suc n)). omega (arith, latest-here i (suc n) h))
+      (λ (h : endOf t (suc n) ≤ i). omega (arith, latest-next i (suc n) h, latest-below i n))
+      (lt-or-ge i (endOf t (suc n)))
 
   -- a parent stands earlier
   pub parent-below : (i : ℕ) → 0 < i → parent t i < i

@@ -28,12 +28,16 @@ countFault t = eqb (count t) 0 || ltb 128 (count t) || not (eqb (length t) (star
 unfoldable pub kindFault : List ℕ → ℕ → Bool
 kindFault t i = ltb 5 (kind t i)
 
--- 5: "span 0; rule's span not 1; root's span not the count; span past its parent's end"
+-- 5: "span 0; rule's span not 1; [..]"
+abbrev pub oddSpan : ℕ → Bool → Bool
+oddSpan s rule = eqb s 0 || (rule && not (eqb s 1))
+
+-- 5: "[..] root's span not the count; span past its parent's end"
+abbrev pub wrongEnd : List ℕ → ℕ → Bool
+wrongEnd t i = cond (eqb i 0) (not (eqb (span t i) (count t))) (ltb (endOf t (parent t i)) (endOf t i))
+
 unfoldable pub spanFault : List ℕ → ℕ → Bool
-spanFault t i =
-    eqb (span t i) 0
-    || (isRule t i && not (eqb (span t i) 1))
-    || cond (eqb i 0) (not (eqb (span t i) (count t))) (ltb (endOf t (parent t i)) (endOf t i))
+spanFault t i = oddSpan (span t i) (isRule t i) || wrongEnd t i
 
 -- 6: "level 9 or deeper"
 unfoldable pub levelFault : List ℕ → ℕ → Bool

@@ -15,16 +15,14 @@ use crate::layout::word_at;
 use answer::Answer;
 use answer::FIELDS;
 ghost use mathlib.Core.Path.{_≡_};
-ghost use mathlib.Core.Bool.{not, _&&_, _||_};
 ghost use Prim.Native.Nat.{_+_, _≤_, _<_};
-ghost use lib.Dec.{eqb};
 ghost use lib.ListN.{length};
 ghost use Rattle.answer.specs.Fields.{fields};
 ghost use Rattle.table.specs.Layout.{header, start};
 ghost use Rattle.table.specs.Tree.{isRule, level};
 ghost use Rattle.table.specs.Open.{deepest, EndAbove};
 ghost use Rattle.table.specs.Reading.{lengthFault, versionFault, countFault, headerFault};
-ghost use Rattle.table.specs.Reading.{spanFault, rangeFault, rangesFault, cardFault, faultAfterKind, nodeFault, reading};
+ghost use Rattle.table.specs.Reading.{oddSpan, spanFault, rangeFault, rangesFault, cardFault, faultAfterKind, nodeFault, reading};
 
 // Refusal 1: the slice is too short, or not as long as it says.
 fn length_fault(table: &[u8]) -> bool
@@ -77,7 +75,7 @@ fn header_fault(table: &[u8]) -> u8
 
 // A span of 0, or a rule's that is not 1.
 fn odd_span(span: usize, rule: bool) -> bool
-    ensures { λ r. ⌜ r ≡ (eqb span 0 || (rule && not (eqb span 1))) ⌝ }
+    ensures { λ r. ⌜ r ≡ oddSpan span rule ⌝ }
 {
     if span == 0 {
         true

@@ -5,7 +5,7 @@ use native.Mathlib.Omega.{arith}
 use borrow.Author.Tests.{le-leb, lt-leb}
 use borrow.Author.Needs.{needs}
 use Rattle.table.specs.Layout.{kind}
-use Rattle.table.proofs.Faults.{fault-group, fault-kind}
+use Rattle.table.proofs.Faults.{fault-later, fault-kind}
 use Rattle.table.proofs.reading.node_fault.Statement.{statement}
 use Rattle.table.proofs.reading.node_fault.Tie as tie
 
@@ -25,12 +25,12 @@ fault-of-requires-2 c κs =
 returns : tie.Need-returns
 returns c =
     let s = c .before .before .before .before .args in
-    fault-group (s .table .now) (s .i) (c .before .before .kind-at .result) (c .fault-of .result) (c .before .before .kind-at .ensures) (omega (arith, c .before .if1 .taken)) (c .fault-of .ensures)
+    fault-later (s .table .now) (s .i) (c .before .before .kind-at .result) (c .fault-of .result) (c .before .before .kind-at .ensures) (omega (arith, c .before .if1 .taken)) (c .fault-of .ensures)
 
 returns-2 : tie.Need-returns-2
 returns-2 c =
     let s = c .before .before .before .before .before .args in
-    fault-group (s .table .now) (s .i) (c .before .before .before .kind-at .result) (c .fault-of2 .result) (c .before .before .before .kind-at .ensures) (omega (arith, c .before .if2 .taken)) (c .fault-of2 .ensures)
+    fault-later (s .table .now) (s .i) (c .before .before .before .kind-at .result) (c .fault-of2 .result) (c .before .before .before .kind-at .ensures) (omega (arith, c .before .if2 .taken)) (c .fault-of2 .ensures)
 
 returns-3 : tie.Need-returns-3
 returns-3 c =

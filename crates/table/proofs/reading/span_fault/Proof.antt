@@ -19,20 +19,20 @@ add-result c = omega (arith, c .before .before .before .before .before .pre, c .
 returns : tie.Need-returns
 returns c =
     let s = c .before .before .before .before .args in
-    span-odd (s .table .now) (s .i) (c .before .before .span-at .result) (s .rule) (s .above) (c .before .before .span-at .ensures .0) (c .before .before .before .before .pre .1 .0)
-    (c .before .odd-span .result) (c .before .odd-span .ensures) (c .if1 .taken)
+    span-odd (s .table .now) (s .i) (c .before .before .span-at .result) (s .rule) (c .before .before .span-at .ensures .0) (c .before .before .before .before .pre .1 .0) (c .before .odd-span .result)
+    (c .before .odd-span .ensures) (c .if1 .taken)
 
 returns-2 : tie.Need-returns-2
 returns-2 c =
     let s = c .before .before .before .before .before .args in
-    span-root (s .table .now) (s .i) (c .before .before .before .span-at .result) (s .rule) (s .above) (c .before .before .before .span-at .ensures .0) (c .before .before .before .before .before .pre .1 .0)
-    (c .before .before .odd-span .result) (c .before .before .odd-span .ensures) (c .before .if1 .left) (c .if2 .taken) (c .before .before .before .before .before .pre .1 .1)
+    span-root (s .table .now) (s .i) (c .before .before .before .span-at .result) (s .rule) (c .before .before .before .span-at .ensures .0) (c .before .before .before .before .before .pre .1 .0) (c .before .before .odd-span .result)
+    (c .before .before .odd-span .ensures) (c .before .if1 .left) (c .if2 .taken) (s .above) (c .before .before .before .before .before .pre .1 .1)
 
 returns-3 : tie.Need-returns-3
 returns-3 c =
     let s = c .before .before .before .before .before .args in
-    span-child (s .table .now) (s .i) (c .before .before .before .span-at .result) (s .rule) (s .above) (c .before .before .before .span-at .ensures .0) (c .before .before .before .before .before .pre .1 .0)
-    (c .before .before .odd-span .result) (c .before .before .odd-span .ensures) (c .before .if1 .left) (pos-of-ne-zero (c .if2 .left)) (c .before .before .before .before .before .pre .1 .1)
+    span-child (s .table .now) (s .i) (c .before .before .before .span-at .result) (s .rule) (c .before .before .before .span-at .ensures .0) (c .before .before .before .before .before .pre .1 .0) (c .before .before .odd-span .result)
+    (c .before .before .odd-span .ensures) (c .before .if1 .left) (pos-of-ne-zero (c .if2 .left)) (s .above) (c .before .before .before .before .before .pre .1 .1)
 
 pub span-fault-spec : {M : Type 1} → statement M
 span-fault-spec =
