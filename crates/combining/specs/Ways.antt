@@ -6,16 +6,19 @@ use Prim.Native.Nat.{ℕ, _<_}
 use lib.Dec.{eqb}
 use lib.ListN.{getD}
 
--- "The four decisions are 0 none, 1 may, 2 not, 3 unclear (NotApplicable, Permit, Deny, Indeterminate)"
+-- "The four decisions are 0 none, [..] (NotApplicable, [..])"
 abbrev pub notApplicable : ℕ
 notApplicable = 0
 
+-- "1 may" (Permit)
 abbrev pub permit : ℕ
 permit = 1
 
+-- "2 not" (Deny)
 abbrev pub deny : ℕ
 deny = 2
 
+-- "3 unclear" (Indeterminate)
 abbrev pub indeterminate : ℕ
 indeterminate = 3
 
@@ -58,7 +61,7 @@ denyOverrides ds =
     (cond (any (eqb permit) ds) permit
     notApplicable)
 
--- "Kinds 0 to 3 are groups: 0 first, 1 only one, 2 may beats, 3 may not beats."
+-- "Kinds 0 to 3 are groups: 0 first, 1 only one, 2 may beats, 3 may not beats." Asked of these kinds alone.
 abbrev pub way : ℕ → List ℕ → ℕ
 way k ds =
     cond (eqb k 0) (firstApplicable ds)

@@ -9,9 +9,9 @@ use borrow.Author.Tests.{lt-ltb, le-ltb, eq-eqb, ne-eqb, ltb-false}
 use lib.Dec.{ltb, eqb}
 use lib.ListN.{length}
 use Rattle.table.specs.Layout.{bytesAfter, count, header, start, maximum, kind, span, low, high}
-use Rattle.table.specs.Tree.{isRule, endOf, parent}
+use Rattle.table.specs.Tree.{isRule, endOf, parent, level}
 use Rattle.table.specs.Open.{EndAbove}
-use Rattle.table.specs.Reading.{lengthFault, countFault, kindFault, oddSpan, wrongEnd, spanFault, rangeFault, faultAfterKind, nodeFault}
+use Rattle.table.specs.Reading.{lengthFault, countFault, kindFault, oddSpan, wrongEnd, spanFault, levelFault, rangeFault, faultAfterKind, nodeFault}
 use Rattle.table.proofs.Tests.{neither}
 
 module _ (t : List ℕ) where
@@ -74,6 +74,16 @@ module _ (t : List ℕ) where
       span-child h l above a =
           sym (span-by ∙ ap (λ b. b || wrongEnd t i) h ∙ wrong-end-child l
           ∙ ap (λ n. ltb n (endOf t i)) (sym (a .child l)) ∙ ap (λ n. ltb above (i + n)) (sym es))
+
+    -- refusal 6, of a node under one on level d
+    module _ (d : ℕ) (e : level t i ≡ d + 1) where
+      pub level-deep : 8 ≤ d → levelFault t i ≡ true
+      unfolding levelFault
+      level-deep h = lt-ltb 8 (level t i) (omega arith)
+
+      pub level-allowed : d < 8 → levelFault t i ≡ false
+      unfolding levelFault
+      level-allowed h = le-ltb 8 (level t i) (omega arith)
 
     -- refusal 7
     module _ (f h l : ℕ) (eh : h ≡ high t i f) (el : l ≡ low t i f) where

@@ -47,14 +47,14 @@ module _ (t : List ℕ) where
   passes a (none h b) e =
       let p = header-passed t h in
       record {
-        length = p .length;
-        version = p .version;
-        counts = p .count;
-        kinds = λ i l. node-passed t i (b i l) .kind;
-        spans = λ i l. node-passed t i (b i l) .span;
-        levels = λ i l. node-passed t i (b i l) .level;
+        lengths = p .lengths;
+        versions = p .versions;
+        counts = p .counts;
+        kinds = λ i l. node-passed t i (b i l) .kinds;
+        spans = λ i l. node-passed t i (b i l) .spans;
+        levels = λ i l. node-passed t i (b i l) .levels;
         ranges = λ i l. node-passed t i (b i l) .ranges;
-        cards = λ i l. node-passed t i (b i l) .card;
+        cards = λ i l. node-passed t i (b i l) .cards;
       }
 
   -- a table whose reading has number 0 is accepted

@@ -16,11 +16,11 @@ use Rattle.table.proofs.Tests.{neither, not-chosen, none-below}
 
 -- none of refusals 4 to 8 applies to node i
 pub record NodePassed (t : List ℕ) (i : ℕ) : Type 0 where
-  pub kind : kindFault t i ≡ false
-  pub span : spanFault t i ≡ false
-  pub level : levelFault t i ≡ false
+  pub kinds : kindFault t i ≡ false
+  pub spans : spanFault t i ≡ false
+  pub levels : levelFault t i ≡ false
   pub ranges : rangesFault t i ≡ false
-  pub card : cardFault t i ≡ false
+  pub cards : cardFault t i ≡ false
 
 pub node-passed : (t : List ℕ) (i : ℕ) → nodeFault t i ≡ 0 → NodePassed t i
 unfolding nodeFault
@@ -30,20 +30,20 @@ node-passed t i e =
     let l = not-chosen (levelFault t i) 6 _ (lit< tt) (s .1) in
     let r = not-chosen (rangesFault t i) 7 _ (lit< tt) (l .1) in
     let d = not-chosen (cardFault t i) 8 0 (lit< tt) (r .1) in
-    record { kind = k .0; span = s .0; level = l .0; ranges = r .0; card = d .0 }
+    record { kinds = k .0; spans = s .0; levels = l .0; ranges = r .0; cards = d .0 }
 
 pub accepted-node : (t : List ℕ) → Accepted t → (i : ℕ) → i < count t → NodePassed t i
 accepted-node t c i l = record {
-  kind = c .kinds i l;
-  span = c .spans i l;
-  level = c .levels i l;
+  kinds = c .kinds i l;
+  spans = c .spans i l;
+  levels = c .levels i l;
   ranges = c .ranges i l;
-  card = c .cards i l;
+  cards = c .cards i l;
 }
 
 pub no-fault : (t : List ℕ) (i : ℕ) → NodePassed t i → nodeFault t i ≡ 0
 unfolding nodeFault
-no-fault t i e = simp (e .kind, e .span, e .level, e .ranges, e .card)
+no-fault t i e = simp (e .kinds, e .spans, e .levels, e .ranges, e .cards)
 
 pub record Good (t : List ℕ) (i : ℕ) : Type 0 where
   pub kinds : kind t i ≤ 5
@@ -98,17 +98,17 @@ module _ (t : List ℕ) (i : ℕ) where
 
   pub good : NodePassed t i → Good t i
   good e =
-      let p = span-parts (e .span) in
+      let p = span-parts (e .spans) in
       record {
-        kinds = kind-part (e .kind);
+        kinds = kind-part (e .kinds);
         spans = pos-of-ne-zero (eqb-false (span t i) 0 (p .0));
         rules = λ h. eqb-true (span t i) 1
             (not-false _ (sym (ap (λ b. b && not (eqb (span t i) 1)) (le-leb 4 (kind t i) h)) ∙ p .1));
         root = λ z. eqb-true _ _ (not-false _ (sym (wrong-end-root t i z) ∙ p .2));
         inside = λ l. ltb-false _ _ (sym (wrong-end-child t i l) ∙ p .2);
-        levels = level-part (e .level);
+        levels = level-part (e .levels);
         rising = λ f h. range-parts f (ranges-parts (e .ranges) f h) .0;
         within = λ f h. range-parts f (ranges-parts (e .ranges) f h) .1;
-        carded = card-rule (e .card);
-        plain = card-group (e .card);
+        carded = card-rule (e .cards);
+        plain = card-group (e .cards);
       }

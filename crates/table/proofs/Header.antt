@@ -16,9 +16,9 @@ use Rattle.table.proofs.Faults.{length-passed}
 
 -- none of refusals 1 to 3 applies
 pub record HeaderPassed (t : List ℕ) : Type 0 where
-  pub length : lengthFault t ≡ false
-  pub version : versionFault t ≡ false
-  pub count : countFault t ≡ false
+  pub lengths : lengthFault t ≡ false
+  pub versions : versionFault t ≡ false
+  pub counts : countFault t ≡ false
 
 pub header-passed : (t : List ℕ) → headerFault t ≡ 0 → HeaderPassed t
 unfolding headerFault
@@ -26,14 +26,14 @@ header-passed t e =
     let l = not-chosen (lengthFault t) 1 _ (lit< tt) e in
     let v = not-chosen (versionFault t) 2 _ (lit< tt) (l .1) in
     let n = not-chosen (countFault t) 3 0 (lit< tt) (v .1) in
-    record { length = l .0; version = v .0; count = n .0 }
+    record { lengths = l .0; versions = v .0; counts = n .0 }
 
 pub accepted-header : (t : List ℕ) → Accepted t → HeaderPassed t
-accepted-header t c = record { length = c .length; version = c .version; count = c .counts }
+accepted-header t c = record { lengths = c .lengths; versions = c .versions; counts = c .counts }
 
 pub no-header-fault : (t : List ℕ) → HeaderPassed t → headerFault t ≡ 0
 unfolding headerFault
-no-header-fault t e = simp (e .length, e .version, e .count)
+no-header-fault t e = simp (e .lengths, e .versions, e .counts)
 
 pub record Headed (t : List ℕ) : Type 0 where
   pub long : header ≤ length t
@@ -51,8 +51,8 @@ module _ (t : List ℕ) where
 
   pub headed : HeaderPassed t → Headed t
   headed e =
-      let p = count-parts (e .count) in
-      record { long = length-passed t (e .length); records = p .2; some = p .0; few = p .1 }
+      let p = count-parts (e .counts) in
+      record { long = length-passed t (e .lengths); records = p .2; some = p .0; few = p .1 }
 
   pub read-header : (headerFault t ≡ 0 → ⊥) → reading t ≡ refused (headerFault t) 0
   unfolding reading

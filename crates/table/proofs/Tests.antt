@@ -1,4 +1,4 @@
--- Laws of tests: what a test or a conjunction, a disjunction or a choice of tests that failed tells.
+-- Laws of tests: what a comparison, a disjunction, a choice or a test of each number tells.
 -- Assumes nothing.
 use mathlib.Core.Path.{_≡_, refl, sym, ap, _∙_}
 use mathlib.Core.Bool.{Bool, true, false, cond, _||_, or-true}
@@ -17,10 +17,6 @@ lt-or-ge a b = by (ltb a b) refl
     by : (x : Bool) → ltb a b ≡ x → (a < b) ⊎ (b ≤ a)
     by true e = inl (ltb-true a b e)
     by false e = inr (ltb-false a b e)
-
-pub true-or-false : (b : Bool) → (b ≡ true) ⊎ (b ≡ false)
-true-or-false true = inl refl
-true-or-false false = inr refl
 
 pub neither : (a b : Bool) → (a || b) ≡ false → (a ≡ false) × (b ≡ false)
 neither true b e = absurd (let z : _≡_ {A = ℕ} 1 0 = ap (λ x. cond x 1 0) e in omega arith)

@@ -29,7 +29,7 @@ maximum t f = byte t (3 + f)
 abbrev pub count : List ℕ → ℕ
 count t = word t (3 + fields)
 
--- the bytes before the first record
+-- bytes 0 to 7 of the table above, before the first record
 abbrev pub header : ℕ
 header = 5 + fields
 
@@ -41,18 +41,22 @@ recordSize = 5 + 2 * fields
 abbrev pub start : ℕ → ℕ
 start i = header + recordSize * i
 
+-- "kind (1 byte)" of node i
 abbrev pub kind : List ℕ → ℕ → ℕ
 kind t i = byte t (start i)
 
+-- "span (2)"
 abbrev pub span : List ℕ → ℕ → ℕ
 span t i = word t (start i + 1)
 
+-- "card (2)"
 abbrev pub card : List ℕ → ℕ → ℕ
 card t i = word t (start i + 3)
 
--- the range of node i in field f, both ends included
+-- "then low and high of who, of where, of deed (1 byte each, both ends included)": the low of field f
 abbrev pub low : List ℕ → ℕ → ℕ → ℕ
 low t i f = byte t (start i + 5 + 2 * f)
 
+-- the high of field f
 abbrev pub high : List ℕ → ℕ → ℕ → ℕ
 high t i f = byte t (start i + 5 + 2 * f + 1)

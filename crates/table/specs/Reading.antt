@@ -28,14 +28,15 @@ countFault t = eqb (count t) 0 || ltb 128 (count t) || not (eqb (length t) (star
 unfoldable pub kindFault : List ℕ → ℕ → Bool
 kindFault t i = ltb 5 (kind t i)
 
--- 5: "span 0; rule's span not 1; [..]"
+-- of 5: "span 0; rule's span not 1", of a span and whether its node is a rule
 abbrev pub oddSpan : ℕ → Bool → Bool
 oddSpan s rule = eqb s 0 || (rule && not (eqb s 1))
 
--- 5: "[..] root's span not the count; span past its parent's end"
+-- of 5: "root's span not the count; span past its parent's end"
 abbrev pub wrongEnd : List ℕ → ℕ → Bool
 wrongEnd t i = cond (eqb i 0) (not (eqb (span t i) (count t))) (ltb (endOf t (parent t i)) (endOf t i))
 
+-- 5: "span 0; rule's span not 1; root's span not the count; span past its parent's end"
 unfoldable pub spanFault : List ℕ → ℕ → Bool
 spanFault t i = oddSpan (span t i) (isRule t i) || wrongEnd t i
 
@@ -52,6 +53,7 @@ someBelow (suc n) p = someBelow n p || p n
 unfoldable pub rangeFault : List ℕ → ℕ → ℕ → Bool
 rangeFault t i f = ltb (high t i f) (low t i f) || ltb (maximum t f) (high t i f)
 
+-- 7: "low over high, or high over the maximum", in some field
 unfoldable pub rangesFault : List ℕ → ℕ → Bool
 rangesFault t i = someBelow fields (rangeFault t i)
 
@@ -63,11 +65,12 @@ cardFault t i = cond (isRule t i) (eqb (card t i) 0) (not (eqb (card t i) 0))
 unfoldable pub headerFault : List ℕ → ℕ
 headerFault t = cond (lengthFault t) 1 (cond (versionFault t) 2 (cond (countFault t) 3 0))
 
--- "lowest number first within a node": the number of the refusal of node i; 0 where none applies
+-- "lowest number first within a node": the number of the first of refusals 5 to 8 of node i; 0 where none applies
 abbrev pub faultAfterKind : List ℕ → ℕ → ℕ
 faultAfterKind t i =
     cond (spanFault t i) 5 (cond (levelFault t i) 6 (cond (rangesFault t i) 7 (cond (cardFault t i) 8 0)))
 
+-- "lowest number first within a node": the number of the refusal of node i; 0 where none applies
 unfoldable pub nodeFault : List ℕ → ℕ → ℕ
 nodeFault t i = cond (kindFault t i) 4 (faultAfterKind t i)
 
@@ -82,8 +85,8 @@ reading t = cond (eqb (headerFault t) 0) (readFrom t 0 (count t)) (refused (head
 
 -- "A table is accepted when none of refusals 1 to 8 applies to it"
 pub record Accepted (t : List ℕ) : Type 0 where
-  pub length : lengthFault t ≡ false
-  pub version : versionFault t ≡ false
+  pub lengths : lengthFault t ≡ false
+  pub versions : versionFault t ≡ false
   pub counts : countFault t ≡ false
   pub kinds : (i : ℕ) → i < count t → kindFault t i ≡ false
   pub spans : (i : ℕ) → i < count t → spanFault t i ≡ false

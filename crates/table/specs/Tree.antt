@@ -6,7 +6,7 @@ use Prim.Native.Nat.{ℕ, zero, suc, _+_, _<_}
 use lib.Dec.{eqb, leb, ltb}
 use Rattle.table.specs.Layout.{kind, span}
 
--- "Kinds 4 and 5 are rules"
+-- "Kinds 4 and 5 are rules". A kind over 5 is refused before this is asked.
 abbrev pub isRule : List ℕ → ℕ → Bool
 isRule t i = leb 4 (kind t i)
 
@@ -28,6 +28,7 @@ abbrev pub levelWithin : ℕ → List ℕ → ℕ → ℕ
 levelWithin zero t i = 1
 levelWithin (suc n) t i = cond (eqb i 0) 1 (suc (levelWithin n t (parent t i)))
 
+-- the level of node i
 unfoldable pub level : List ℕ → ℕ → ℕ
 level t i = levelWithin i t i
 

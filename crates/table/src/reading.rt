@@ -176,7 +176,7 @@ fn node_fault(table: &[u8], i: usize, above: usize, depth: usize) -> u8
 }
 
 // The level of the node right above node i, by climbing from the node before it: ends says where the open node of each
-// level ends. Each level is left once for each node that opened it, so all climbs together take one step for each node.
+// level ends. A node opens one level and that is left once, so all climbs together leave no more levels than there are nodes.
 fn depth_above(ends: &[usize; LEVELS + 1], depth: usize, i: usize) -> usize
     requires { ⌜ depth ≤ 8 ⌝ }
     ensures { λ r. ⌜ (r ≡ deepest (now (ends .entry)) i depth) × (r ≤ depth) ⌝ }

@@ -4,7 +4,7 @@ use mathlib.Core.Path.{refl, sym, ap, _∙_}
 use Prim.Native.Nat.{ℕ, _+_, _-_}
 use native.Mathlib.Omega.{arith}
 use borrow.Author.Needs.{needs}
-use Rattle.answer.specs.Answers.{refused, counted}
+use Rattle.answer.specs.Answers.{refused}
 use Rattle.table.proofs.Pass.{Passed, start, found, next, stopped, finished}
 use Rattle.table.proofs.Good.{node-passed, good}
 use Rattle.table.proofs.Header.{header-passed, headed, read-header}
