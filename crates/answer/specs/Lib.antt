@@ -1,2 +1,4 @@
 pub mod Fields
 pub mod Answers
+pub mod Requests
+pub mod Rulings

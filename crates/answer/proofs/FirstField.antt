@@ -1,0 +1,86 @@
+-- Refusal 9 names the first field whose value is over its maximum, and applies exactly where the request is not within the maxima.
+-- Assumes nothing.
+use mathlib.Core.Path.{_≡_, refl, sym, ap, _∙_}
+use mathlib.Core.Bool.{Bool, true, false, cond}
+use mathlib.Core.Logic.{⊎-elim}
+use mathlib.Core.List.{List}
+use Prim.Native.Nat.{ℕ, zero, suc, _+_, _-_, _≤_, _<_}
+use native.Mathlib.Nat.{eq-or-lt-of-le}
+use native.Mathlib.Omega.{arith}
+use borrow.Author.Tests.{le-ltb, ltb-true, ltb-false}
+use Rattle.answer.specs.Fields.{fields}
+use Rattle.answer.specs.Requests.{value, Within, valueFault, firstFrom, fieldFault}
+
+module _ (p : ℕ → Bool) where
+  first-here : (i k : ℕ) → p i ≡ true → firstFrom p i (suc k) ≡ i
+  first-here i k e = ap (λ b. cond b i (firstFrom p (i + 1) k)) e
+
+  first-later : (i k : ℕ) → p i ≡ false → firstFrom p i (suc k) ≡ firstFrom p (i + 1) k
+  first-later i k e = ap (λ b. cond b i (firstFrom p (i + 1) k)) e
+
+  -- where none of k passes, it is past them
+  first-none : (k i : ℕ) → ((j : ℕ) → i ≤ j → j < i + k → p j ≡ false) → firstFrom p i k ≡ i + k
+  first-none zero i h = omega arith
+  first-none (suc k) i h =
+      let z : i + 1 + k ≡ i + suc k = omega arith in
+      first-later i k (h i (omega arith) (omega arith)) ∙ first-none k (i + 1) (λ j l r. h j (omega arith) (omega arith)) ∙ z
+
+  -- it is no earlier than the first asked, and none before it passes
+  first-least : (k i : ℕ) → (i ≤ firstFrom p i k) × ((j : ℕ) → i ≤ j → j < firstFrom p i k → p j ≡ false)
+  first-least zero i = (omega arith, λ j l r. absurd (omega arith))
+  first-least (suc k) i = by (p i) refl (first-least k (i + 1))
+    where
+      by : (b : Bool) → p i ≡ b → (i + 1 ≤ firstFrom p (i + 1) k) × ((j : ℕ) → i + 1 ≤ j → j < firstFrom p (i + 1) k → p j ≡ false) →
+          (i ≤ firstFrom p i (suc k)) × ((j : ℕ) → i ≤ j → j < firstFrom p i (suc k) → p j ≡ false)
+      by true e h = (omega (arith, first-here i k e), λ j l r. absurd (omega (arith, first-here i k e)))
+      by false e h = (
+        omega (arith, first-later i k e, h .0),
+        λ j l r.
+            ⊎-elim
+            (λ (m : i ≡ j). ap p (sym m) ∙ e)
+            (λ (m : i < j). h .1 j (omega arith) (omega (arith, first-later i k e)))
+            (eq-or-lt-of-le l),
+      )
+
+  -- where it is one of k, it passes
+  first-passes : (k i : ℕ) → firstFrom p i k < i + k → p (firstFrom p i k) ≡ true
+  first-passes zero i l = absurd (omega arith)
+  first-passes (suc k) i l = by (p i) refl (first-passes k (i + 1))
+    where
+      by : (b : Bool) → p i ≡ b → (firstFrom p (i + 1) k < i + 1 + k → p (firstFrom p (i + 1) k) ≡ true) → p (firstFrom p i (suc k)) ≡ true
+      by true e h = ap p (first-here i k e) ∙ e
+      by false e h = ap p (first-later i k e) ∙ h (omega (arith, first-later i k e))
+
+  -- one step of a search that stands at i, of n in all
+
+  pub search-here : (i n : ℕ) → i < n → p i ≡ true → firstFrom p i (n - i) ≡ i
+  search-here i n l e = let z : n - i ≡ suc (n - (i + 1)) = omega arith in ap (firstFrom p i) z ∙ first-here i (n - (i + 1)) e
+
+  pub search-later : (i n : ℕ) → i < n → p i ≡ false → firstFrom p i (n - i) ≡ firstFrom p (i + 1) (n - (i + 1))
+  search-later i n l e = let z : n - i ≡ suc (n - (i + 1)) = omega arith in ap (firstFrom p i) z ∙ first-later i (n - (i + 1)) e
+
+  pub search-ends : (i n : ℕ) → n ≤ i → firstFrom p i (n - i) ≡ i
+  search-ends i n l = let z : n - i ≡ 0 = omega arith in ap (firstFrom p i) z
+
+module _ (maximum : ℕ → ℕ) (q : List ℕ) where
+  -- a request within the maxima has no faulty field
+  pub within-none : Within maximum q → fieldFault maximum q ≡ fields
+  unfolding fieldFault
+  within-none h =
+      first-none (valueFault maximum q) fields 0 (λ j l r. le-ltb (maximum j) (value q j) (h j (omega arith)))
+
+  -- and one that has none is within them
+  pub none-within : fields ≤ fieldFault maximum q → Within maximum q
+  unfolding fieldFault
+  none-within h f l =
+      ltb-false (maximum f) (value q f) (first-least (valueFault maximum q) fields 0 .1 f (omega arith) (omega arith))
+
+  -- the field named is over its maximum, and no earlier one is
+  pub first-fault : fieldFault maximum q < fields →
+      (maximum (fieldFault maximum q) < value q (fieldFault maximum q))
+      × ((f : ℕ) → f < fieldFault maximum q → value q f ≤ maximum f)
+  unfolding fieldFault
+  first-fault h = (
+    ltb-true (maximum (fieldFault maximum q)) (value q (fieldFault maximum q)) (first-passes (valueFault maximum q) fields 0 h),
+    λ f l. ltb-false (maximum f) (value q f) (first-least (valueFault maximum q) fields 0 .1 f (omega arith) l),
+  )
