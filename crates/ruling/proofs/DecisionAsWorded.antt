@@ -1,0 +1,118 @@
+-- The decision of a node is the one that document 01 words: a group goes by its own target alone, and only rules by the targets above
+-- them too. A group under a failed target that asked its children would hear none from all of them.
+-- Assumes nothing.
+use mathlib.Core.Path.{_≡_, refl, sym, ap, _∙_}
+use mathlib.Core.Bool.{Bool, true, false, cond}
+use mathlib.Core.Logic.{⊎-elim}
+use mathlib.Core.List.{List, [], _∷_}
+use Prim.Native.Nat.{ℕ, zero, suc, _+_, _-_, _≤_, _<_}
+use native.Mathlib.Omega.{arith}
+use borrow.Author.Tests.{le-leb, lt-leb}
+use Rattle.combining.specs.Ways.{notApplicable, way}
+use Rattle.combining.proofs.Fold.{not-applicable-first, way-none}
+use Rattle.table.specs.Layout.{count, kind}
+use Rattle.table.specs.Tree.{endOf, isRule}
+use Rattle.table.specs.Reading.{Accepted}
+use Rattle.table.specs.WellFormed.{WellFormed}
+use Rattle.table.proofs.Tests.{lt-or-ge}
+use Rattle.table.proofs.AcceptedIsWellFormed.{well-formed}
+use Rattle.ruling.specs.Forest.{Forest, empty, node, forestWithin, under}
+use Rattle.ruling.specs.Targets.{targetHolds, applies}
+use Rattle.ruling.specs.Meaning.{effect, gives, decisions, decision}
+use Rattle.ruling.specs.Walk.{Whole}
+use Rattle.ruling.proofs.Tests.{different}
+use Rattle.ruling.proofs.Forest.{within-none, within-more, whole-under, whole-after}
+use Rattle.ruling.proofs.Applies.{applies-each, applies-down}
+use Rattle.ruling.proofs.Decisions.{gives-not, gives-rule, gives-group}
+
+-- "A matching rule gives its effect, any other rule none. A group whose target fails gives none. Otherwise a group asks its children",
+-- which give ds
+abbrev pub givesAsWorded : List ℕ → List ℕ → ℕ → List ℕ → ℕ
+givesAsWorded t q i ds =
+    cond (isRule t i)
+    (cond (applies t q i) (effect (kind t i)) notApplicable)
+    (cond (targetHolds t q i) (way (kind t i) ds) notApplicable)
+
+-- "a child that is a group asks its own in turn"
+abbrev pub decisionsAsWorded : List ℕ → List ℕ → Forest → List ℕ
+decisionsAsWorded t q empty = []
+decisionsAsWorded t q (node i below after) = givesAsWorded t q i (decisionsAsWorded t q below) ∷ decisionsAsWorded t q after
+
+module _ (t q : List ℕ) (w : WellFormed t) where
+  abbrev a : ℕ → Bool
+  a = applies t q
+
+  -- where no node applies, a group over these nodes hears nothing
+  silent : (n i end k : ℕ) → Whole t i end → k < 4 → ((m : ℕ) → i ≤ m → m < end → a m ≡ false) →
+      way k (decisions a t (forestWithin n t i end)) ≡ notApplicable
+  unfolding forestWithin
+  silent zero i end k r l h = way-none k l
+  silent (suc n) i end k r l h =
+      ⊎-elim
+      (λ (b : i < end).
+      let below = decisions a t (forestWithin n t (i + 1) (endOf t i)) in
+      let after = decisions a t (forestWithin n t (endOf t i) end) in
+      ap (λ u. way k (decisions a t u)) (within-more n t i end b)
+      ∙ ap (λ d. way k (d ∷ after)) (gives-not a t i below (h i (omega arith) b))
+      ∙ not-applicable-first k after l
+      ∙ silent n (endOf t i) end k (whole-after t w i end r) l (λ m x y. h m (omega arith) y))
+      (λ (b : end ≤ i). ap (λ u. way k (decisions a t u)) (within-none (suc n) t i end b) ∙ way-none k l)
+      (lt-or-ge i end)
+
+  -- a node that does not apply, and what is under it
+  quiet : (n i : ℕ) → i < count t → a i ≡ false → kind t i < 4 →
+      way (kind t i) (decisions a t (forestWithin n t (i + 1) (endOf t i))) ≡ notApplicable
+  quiet n i c e l =
+      silent n (i + 1) (endOf t i) (kind t i) (whole-under t w i c) l
+      (λ m x y. applies-down t q w i m c (omega arith) y e)
+
+  -- one node, whose children give ds, by its kind and by whether it applies
+
+  module _ (i : ℕ) (c : i < count t) (ds : List ℕ) where
+    rule : 4 ≤ kind t i → (b : Bool) → a i ≡ b → cond b (effect (kind t i)) notApplicable ≡ gives a t i ds
+    rule l true e = sym (gives-rule a t i ds e l)
+    rule l false e = sym (gives-not a t i ds e)
+
+    group : kind t i < 4 → (a i ≡ false → way (kind t i) ds ≡ notApplicable) → (b h : Bool) → a i ≡ b → targetHolds t q i ≡ h →
+        cond h (way (kind t i) ds) notApplicable ≡ gives a t i ds
+    group l z true true e f = sym (gives-group a t i ds e l)
+    group l z true false e f = absurd (different (sym (applies-each t q i e i (omega arith) (omega (arith, w .spans i c))) ∙ f))
+    group l z false true e f = z e ∙ sym (gives-not a t i ds e)
+    group l z false false e f = sym (gives-not a t i ds e)
+
+    gives-as-worded : (kind t i < 4 → a i ≡ false → way (kind t i) ds ≡ notApplicable) → givesAsWorded t q i ds ≡ gives a t i ds
+    gives-as-worded z =
+        ⊎-elim
+        (λ (l : kind t i < 4).
+        ap (λ x. cond x (cond (a i) (effect (kind t i)) notApplicable) (cond (targetHolds t q i) (way (kind t i) ds) notApplicable)) (lt-leb 4 (kind t i) l)
+        ∙ group l (z l) (a i) (targetHolds t q i) refl refl)
+        (λ (l : 4 ≤ kind t i).
+        ap (λ x. cond x (cond (a i) (effect (kind t i)) notApplicable) (cond (targetHolds t q i) (way (kind t i) ds) notApplicable)) (le-leb 4 (kind t i) l)
+        ∙ rule l (a i) refl)
+        (lt-or-ge (kind t i) 4)
+
+  worded : (n i end : ℕ) → Whole t i end → decisionsAsWorded t q (forestWithin n t i end) ≡ decisions a t (forestWithin n t i end)
+  unfolding forestWithin
+  worded zero i end r = refl
+  worded (suc n) i end r =
+      ⊎-elim
+      (λ (b : i < end).
+      let c : i < count t = omega (arith, r .inside) in
+      let below = decisions a t (forestWithin n t (i + 1) (endOf t i)) in
+      ap (decisionsAsWorded t q) (within-more n t i end b)
+      ∙ ap (λ ds. givesAsWorded t q i ds ∷ decisionsAsWorded t q (forestWithin n t (endOf t i) end)) (worded n (i + 1) (endOf t i) (whole-under t w i c))
+      ∙ ap (λ d. d ∷ decisionsAsWorded t q (forestWithin n t (endOf t i) end)) (gives-as-worded i c below (λ l e. quiet n i c e l))
+      ∙ ap (λ ds. gives a t i below ∷ ds) (worded n (endOf t i) end (whole-after t w i end r))
+      ∙ sym (ap (decisions a t) (within-more n t i end b)))
+      (λ (b : end ≤ i).
+      ap (decisionsAsWorded t q) (within-none (suc n) t i end b) ∙ sym (ap (decisions a t) (within-none (suc n) t i end b)))
+      (lt-or-ge i end)
+
+-- the decision of every node of an accepted table
+pub decision-as-worded : (t q : List ℕ) → Accepted t → (i : ℕ) → i < count t →
+    givesAsWorded t q i (decisionsAsWorded t q (under t i)) ≡ decision (applies t q) t i
+decision-as-worded t q c i l =
+    let w = well-formed t c in
+    let n = endOf t i - (i + 1) in
+    ap (givesAsWorded t q i) (worded t q w n (i + 1) (endOf t i) (whole-under t w i l))
+    ∙ gives-as-worded t q w i l (decisions (applies t q) t (under t i)) (λ k e. quiet t q w n i l e k)

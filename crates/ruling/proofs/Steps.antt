@@ -1,0 +1,126 @@
+-- What ruling a node or a run of nodes starts from and leaves, one law for each way through the code.
+-- Assumes nothing.
+use mathlib.Core.Path.{_≡_, sym, ap, _∙_}
+use mathlib.Core.Bool.{Bool, true, false}
+use mathlib.Core.List.{List, [], _∷_, _++_}
+use Prim.Native.Nat.{ℕ, suc, _+_, _-_, _≤_, _<_}
+use native.Mathlib.Omega.{arith}
+use lib.ListN.{length, set, length-append}
+use lib.Seq.{sets}
+use Rattle.table.specs.Layout.{count, start, kind, card}
+use Rattle.table.specs.Tree.{endOf}
+use Rattle.table.specs.WellFormed.{WellFormed}
+use Rattle.ruling.specs.Targets.{targetHolds, applies}
+use Rattle.ruling.specs.Meaning.{cardsFrom}
+use Rattle.ruling.specs.Walk.{Node, Run, cardsBetween, Gathered}
+use Rattle.ruling.proofs.Forest.{whole-under, whole-after}
+use Rattle.ruling.proofs.Applies.{applies-is, applies-under, above-root, above-child, above-after}
+use Rattle.ruling.proofs.Cards.{matches-rule, matches-group, cards-none, cards-match, cards-pass, cards-skip, cards-join, cards-few}
+use Rattle.answer.proofs.Stored.{stored-join}
+
+-- the table holds the record of each of its nodes
+pub held : (t : List ℕ) → WellFormed t → (i : ℕ) → i < count t → start (i + 1) ≤ length t
+held t w i l = omega (arith, w .records)
+
+module _ (t : List ℕ) (w : WellFormed t) (q : List ℕ) where
+  -- the root, the nodes under a node, the first of a run of nodes, and those after it
+
+  pub root : (n : ℕ) → n ≡ count t → Node t q 0 n 0
+  root n e = record {
+    some = w .some;
+    ends = omega (arith, w .root);
+    above = above-root t q;
+    few = omega arith;
+  }
+
+  pub children : (i end k : ℕ) → targetHolds t q i ≡ true → Node t q i end k → Run t q (i + 1) end k
+  children i end k h n = record {
+    whole = rw (n .ends) (whole-under t w i (n .some));
+    above = above-child t q i h (n .above);
+    few = omega (arith, n .few);
+  }
+
+  pub first : (i end next k : ℕ) → i < end → next ≡ endOf t i → Run t q i end k → Node t q i next k
+  first i end next k l e r = record {
+    some = omega (arith, r .whole .inside);
+    ends = e;
+    above = r .above;
+    few = r .few;
+  }
+
+  pub rest : (i end next k n : ℕ) (before after : List ℕ) → i < end → next ≡ endOf t i → Run t q i end k →
+      Gathered t q i next k n before after → Run t q next end n
+  rest i end next k n before after l e r g =
+      let c : i < count t = omega (arith, r .whole .inside) in
+      record {
+        whole = rw e (whole-after t w i end (r .whole));
+        above = rw e (above-after t q i w c (r .above));
+        few = omega (arith, g .number, cards-few (applies t q) t (next - i) i, r .few, w .spans i c);
+      }
+
+  -- a node's own test, where every target above it holds
+  pub own : (i end k : ℕ) (b : Bool) → Node t q i end k → targetHolds t q i ≡ b → applies t q i ≡ b
+  own i end k b n e = applies-is t q i (n .above) (w .spans i (n .some)) ∙ e
+
+  -- no card of a node whose target fails, or of no nodes
+  none-gathered : (i end k : ℕ) (list : List ℕ) → cardsBetween t q i end ≡ [] → Gathered t q i end k k list list
+  none-gathered i end k list e = record {
+    number = omega (arith, ap length e);
+    list = sym (ap (sets list k) e);
+  }
+
+  pub gathered-not : (i end k : ℕ) (list : List ℕ) → Node t q i end k → targetHolds t q i ≡ false → Gathered t q i end k k list list
+  gathered-not i end k list n h =
+      none-gathered i end k list
+      (cards-skip (applies t q) t (end - i) i (λ m l r. applies-under t q i m l (omega (arith, n .ends)) h))
+
+  pub gathered-none : (i end k : ℕ) (list : List ℕ) → end ≤ i → Gathered t q i end k k list list
+  gathered-none i end k list l =
+      let z : end - i ≡ 0 = omega arith in
+      none-gathered i end k list (ap (cardsFrom (applies t q) t i) z ∙ cards-none (applies t q) t i)
+
+  -- the card of a rule that matches
+  pub gathered-rule : (i end k c : ℕ) (before after : List ℕ) → Node t q i end k → targetHolds t q i ≡ true → 4 ≤ kind t i →
+      c ≡ card t i → after ≡ set before k c → Gathered t q i end k (k + 1) before after
+  gathered-rule i end k c before after n h l ec e =
+      let z : end - i ≡ 1 = omega (arith, n .ends, w .rules i (n .some) l) in
+      let m = matches-rule (applies t q) t i (own i end k true n h) l in
+      let cs : cardsBetween t q i end ≡ card t i ∷ [] =
+      ap (cardsFrom (applies t q) t i) z ∙ cards-match (applies t q) t i 0 m
+      ∙ ap (λ ds. card t i ∷ ds) (cards-none (applies t q) t (i + 1)) in
+      record {
+        number = omega (arith, ap length cs);
+        list = e ∙ ap (set before k) ec ∙ sym (ap (sets before k) cs);
+      }
+
+  -- the cards of a group are those of the nodes under it
+  pub gathered-group : (i end k n : ℕ) (before after : List ℕ) → Node t q i end k → kind t i < 4 →
+      Gathered t q (i + 1) end k n before after → Gathered t q i end k n before after
+  gathered-group i end k n before after h l g =
+      let z : end - i ≡ suc (end - (i + 1)) = omega (arith, h .ends, w .spans i (h .some)) in
+      let cs : cardsBetween t q i end ≡ cardsBetween t q (i + 1) end =
+      ap (cardsFrom (applies t q) t i) z
+      ∙ cards-pass (applies t q) t i (end - (i + 1)) (matches-group (applies t q) t i l) in
+      record {
+        number = g .number ∙ ap (λ ds. k + length ds) (sym cs);
+        list = g .list ∙ ap (sets before k) (sym cs);
+      }
+
+  -- the cards of a node, and then of those after it
+  pub gathered-more : (i end next k m n : ℕ) (before between after : List ℕ) → i < end → next ≡ endOf t i → Run t q i end k →
+      Gathered t q i next k m before between → Gathered t q next end m n between after → Gathered t q i end k n before after
+  gathered-more i end next k m n before between after l e r g h =
+      let a : endOf t i ≤ end = r .whole .each i (omega arith) l in
+      let z : end - i ≡ (next - i) + (end - next) = omega arith in
+      let y : i + (next - i) ≡ next = omega arith in
+      let cs : cardsBetween t q i end ≡ cardsBetween t q i next ++ cardsBetween t q next end =
+      ap (cardsFrom (applies t q) t i) z ∙ cards-join (applies t q) t (next - i) (end - next) i
+      ∙ ap (λ j. cardsBetween t q i next ++ cardsFrom (applies t q) t j (end - next)) y in
+      record {
+        number = omega (arith, g .number, h .number, ap length cs, length-append (cardsBetween t q i next) (cardsBetween t q next end));
+        list =
+            h .list ∙ ap (λ u. sets u m (cardsBetween t q next end)) (g .list)
+            ∙ ap (λ j. sets (sets before k (cardsBetween t q i next)) j (cardsBetween t q next end)) (g .number)
+            ∙ sym (stored-join (cardsBetween t q i next) (cardsBetween t q next end) before k)
+            ∙ ap (sets before k) (sym cs);
+      }

@@ -1,0 +1,30 @@
+-- The tree of a table's nodes, by their spans.
+-- Assumes nothing: these are definitions.
+use mathlib.Core.Bool.{true, false}
+use mathlib.Core.List.{List}
+use Prim.Native.Nat.{ℕ, zero, suc, _+_, _-_}
+use lib.Dec.{ltb}
+use Rattle.table.specs.Tree.{endOf}
+
+-- Nodes on one level, in order: a first node with the nodes under it, and then the nodes after those.
+pub data Forest : Type 0 where
+  empty : Forest
+  node : ℕ → Forest → Forest → Forest
+
+-- "A span counts a node and all nodes under it; they follow it directly": the nodes from i up to, not including, end.
+-- The first number bounds the steps: end - i is enough, since each takes at least one node.
+unfoldable pub forestWithin : ℕ → List ℕ → ℕ → ℕ → Forest
+forestWithin zero t i end = empty
+forestWithin (suc n) t i end =
+    elim (ltb i end) [
+      | true ↦ node i (forestWithin n t (i + 1) (endOf t i)) (forestWithin n t (endOf t i) end)
+      | false ↦ empty
+    ]
+
+-- the nodes from i up to, not including, end
+abbrev pub run : List ℕ → ℕ → ℕ → Forest
+run t i end = forestWithin (end - i) t i end
+
+-- the nodes under node i
+abbrev pub under : List ℕ → ℕ → Forest
+under t i = run t (i + 1) (endOf t i)

@@ -1,0 +1,5 @@
+pub mod Forest
+pub mod Targets
+pub mod Meaning
+pub mod Ruling
+pub mod Walk

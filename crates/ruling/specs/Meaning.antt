@@ -1,0 +1,47 @@
+-- What the groups of a table give, as document 01 words it under "How a table rules".
+-- Everything here goes by which nodes apply, a test of node numbers. The table's own, for a request, is `applies` of Targets.
+-- Assumes nothing: these are definitions.
+use mathlib.Core.Bool.{Bool, cond, _&&_}
+use mathlib.Core.List.{List, [], _∷_}
+use Prim.Native.Nat.{ℕ, zero, suc, _+_}
+use lib.Dec.{eqb}
+use Rattle.answer.specs.Rulings.{Ruling}
+use Rattle.combining.specs.Ways.{notApplicable, permit, deny, way}
+use Rattle.table.specs.Layout.{count, kind, card}
+use Rattle.table.specs.Tree.{isRule}
+use Rattle.ruling.specs.Forest.{Forest, empty, node, under}
+
+-- "4 may, 5 may not": a rule's effect, by its kind
+abbrev pub effect : ℕ → ℕ
+effect kind = cond (eqb kind 4) permit deny
+
+-- "A matching rule gives its effect, any other rule none. A group whose target fails gives none. Otherwise a group asks its children":
+-- the decision of node i, where its children give ds
+unfoldable pub gives : (ℕ → Bool) → List ℕ → ℕ → List ℕ → ℕ
+gives a t i ds = cond (a i) (cond (isRule t i) (effect (kind t i)) (way (kind t i) ds)) notApplicable
+
+-- "a child that is a group asks its own in turn": the decisions of nodes on one level, in order
+abbrev pub decisions : (ℕ → Bool) → List ℕ → Forest → List ℕ
+decisions a t empty = []
+decisions a t (node i below after) = gives a t i (decisions a t below) ∷ decisions a t after
+
+-- the decision of node i
+abbrev pub decision : (ℕ → Bool) → List ℕ → ℕ → ℕ
+decision a t i = gives a t i (decisions a t (under t i))
+
+-- "A rule matches when its own target and every target above it hold."
+abbrev pub matches : (ℕ → Bool) → List ℕ → ℕ → Bool
+matches a t i = isRule t i && a i
+
+-- "all matching rules, in table order, once for each rule": their cards, of the n nodes from i upward
+unfoldable pub cardsFrom : (ℕ → Bool) → List ℕ → ℕ → ℕ → List ℕ
+cardsFrom a t i zero = []
+cardsFrom a t i (suc n) = cond (matches a t i) (card t i ∷ cardsFrom a t (i + 1) n) (cardsFrom a t (i + 1) n)
+
+-- "The cards of a ruling are those of all matching rules, in table order, once for each rule. Groups don't thin this list."
+abbrev pub cards : (ℕ → Bool) → List ℕ → List ℕ
+cards a t = cardsFrom a t 0 (count t)
+
+-- the ruling of a table: the root's decision, and the cards
+abbrev pub meaning : (ℕ → Bool) → List ℕ → Ruling
+meaning a t = record { decision = decision a t 0; cards = cards a t }

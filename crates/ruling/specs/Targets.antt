@@ -1,0 +1,31 @@
+-- When a target holds, and when a node applies, as document 01 words it under "How a table rules".
+-- Assumes nothing: these are definitions.
+use mathlib.Core.Bool.{Bool, true, not, _&&_, _||_}
+use mathlib.Core.List.{List}
+use Prim.Native.Nat.{ℕ, zero, suc}
+use lib.Dec.{leb, ltb}
+use Rattle.answer.specs.Fields.{fields}
+use Rattle.answer.specs.Requests.{value}
+use Rattle.table.specs.Layout.{low, high}
+use Rattle.table.specs.Tree.{endOf}
+
+-- the test passes at each number below n
+abbrev pub everyBelow : ℕ → (ℕ → Bool) → Bool
+everyBelow zero p = true
+everyBelow (suc n) p = everyBelow n p && p n
+
+-- "low and high [..], both ends included": the value lies in the range
+unfoldable pub inRange : ℕ → ℕ → ℕ → Bool
+inRange low high value = leb low value && leb value high
+
+-- the value of field f lies in node i's range
+abbrev pub fieldHolds : List ℕ → List ℕ → ℕ → ℕ → Bool
+fieldHolds t q i f = inRange (low t i f) (high t i f) (value q f)
+
+-- "A node's target holds when all three values lie in its ranges."
+unfoldable pub targetHolds : List ℕ → List ℕ → ℕ → Bool
+targetHolds t q i = everyBelow fields (fieldHolds t q i)
+
+-- "its own target and every target above it hold": node j is node i or above it where it is no later and its span reaches over node i
+unfoldable pub applies : List ℕ → List ℕ → ℕ → Bool
+applies t q i = everyBelow (suc i) (λ j. not (ltb i (endOf t j)) || targetHolds t q j)

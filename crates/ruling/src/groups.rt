@@ -1,0 +1,109 @@
+// Decisions and cards of nodes, in one walk down the tree: each node that is reached is tested once.
+use crate::targets::target_holds;
+use answer::FIELDS;
+use combining::Decision;
+use combining::Kind;
+use combining::Running;
+use table::layout::card_at;
+use table::layout::kind_at;
+use table::layout::span_at;
+ghost use mathlib.Core.Path.{_≡_};
+ghost use Prim.Native.Nat.{_<_};
+ghost use lib.ListN.{set};
+ghost use Rattle.combining.specs.Ways.{taken};
+ghost use Rattle.table.specs.WellFormed.{WellFormed};
+ghost use Rattle.ruling.specs.Forest.{run};
+ghost use Rattle.ruling.specs.Targets.{applies};
+ghost use Rattle.ruling.specs.Meaning.{effect, decisions, decision};
+ghost use Rattle.ruling.specs.Walk.{Node, Run, Gathered};
+
+// A decision, and how many cards there are so far.
+pub(crate) struct Ruled {
+    pub(crate) decision: u8,
+    pub(crate) count: usize,
+}
+
+// Stores a card at place k, where the list has that place.
+fn put(cards: &mut [u16], k: usize, card: u16)
+    ensures { λ _. ⌜ now (cards .exit) ≡ set (now (cards .entry)) k card ⌝ }
+{
+    if k < cards.len() {
+        cards[k] = card;
+    }
+}
+
+// What a rule of a kind gives where it matches.
+fn effect_of(kind: u8) -> u8
+    ensures { λ r. ⌜ r ≡ effect kind ⌝ }
+{
+    match kind {
+        Kind::PERMIT_RULE => Decision::PERMIT,
+        _ => Decision::DENY,
+    }
+}
+
+// Rules node i, which ends at end, where every target above it holds. The cards of matching rules are stored from place
+// count on, as far as the list reaches, and counted.
+pub(crate) fn rule_node(
+    table: &[u8],
+    values: &[u16; FIELDS],
+    i: usize,
+    end: usize,
+    cards: &mut [u16],
+    count: usize,
+) -> Ruled
+    requires { ⌜ WellFormed (now table) ⌝ }
+    requires { ⌜ Node (now table) (now values) i end count ⌝ }
+    ensures { λ r. ⌜ r .decision ≡ decision (applies (now (table .entry)) (now (values .entry))) (now (table .entry)) i ⌝ }
+    ensures { λ r. ⌜ Gathered (now (table .entry)) (now (values .entry)) i end count (r .count) (now (cards .entry)) (now (cards .exit)) ⌝ }
+{
+    if !target_holds(table, values, i) {
+        return Ruled {
+            decision: Decision::NOT_APPLICABLE,
+            count,
+        };
+    }
+    let kind = kind_at(table, i);
+    match kind {
+        0..=3 => {
+            let running = Running::start(kind);
+            rule_run(table, values, i + 1, end, running, cards, count)
+        }
+        _ => {
+            put(cards, count, card_at(table, i));
+            Ruled {
+                decision: effect_of(kind),
+                count: count + 1,
+            }
+        }
+    }
+}
+
+// Rules the nodes from i up to end, each with those under it: the running decision takes in one after another.
+fn rule_run(
+    table: &[u8],
+    values: &[u16; FIELDS],
+    i: usize,
+    end: usize,
+    running: Running,
+    cards: &mut [u16],
+    count: usize,
+) -> Ruled
+    requires { ⌜ WellFormed (now table) ⌝ }
+    requires { ⌜ Run (now table) (now values) i end count ⌝ }
+    requires { ⌜ (running .kind < 4) × (running .decision < 4) ⌝ }
+    ensures { λ r. ⌜ r .decision ≡ taken (running .kind) (running .decision) (decisions (applies (now (table .entry)) (now (values .entry))) (now (table .entry)) (run (now (table .entry)) i end)) ⌝ }
+    ensures { λ r. ⌜ Gathered (now (table .entry)) (now (values .entry)) i end count (r .count) (now (cards .entry)) (now (cards .exit)) ⌝ }
+{
+    if i < end {
+        let next = i + span_at(table, i);
+        let child = rule_node(table, values, i, next, cards, count);
+        let taken = running.take(child.decision);
+        rule_run(table, values, next, end, taken, cards, child.count)
+    } else {
+        Ruled {
+            decision: running.decision,
+            count,
+        }
+    }
+}

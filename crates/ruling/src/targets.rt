@@ -1,0 +1,54 @@
+// Values and ranges: refusal 9, and whether a target holds.
+use answer::FIELDS;
+use table::layout::high_at;
+use table::layout::low_at;
+use table::layout::maximum_at;
+ghost use mathlib.Core.Path.{_≡_};
+ghost use Prim.Native.Nat.{_+_, _≤_};
+ghost use lib.ListN.{length};
+ghost use Rattle.answer.specs.Requests.{fieldFault};
+ghost use Rattle.table.specs.Layout.{maximum, header, start};
+ghost use Rattle.ruling.specs.Targets.{inRange, targetHolds};
+
+// The first field whose value is over its maximum, or FIELDS.
+pub(crate) fn field_fault(table: &[u8], values: &[u16; FIELDS]) -> usize
+    requires { ⌜ header ≤ length (now table) ⌝ }
+    ensures { λ r. ⌜ r ≡ fieldFault (maximum (now (table .entry))) (now (values .entry)) ⌝ }
+{
+    let mut field = 0;
+    while field < FIELDS {
+        if (maximum_at(table, field) as u16) < values[field] {
+            return field;
+        }
+        field += 1;
+    }
+    FIELDS
+}
+
+// Whether a value lies in a range, both ends included.
+fn in_range(low: u8, high: u8, value: u16) -> bool
+    ensures { λ r. ⌜ r ≡ inRange low high value ⌝ }
+{
+    if low as u16 <= value {
+        value <= high as u16
+    } else {
+        false
+    }
+}
+
+// Whether node i's target holds: every value lies in its range.
+pub(crate) fn target_holds(table: &[u8], values: &[u16; FIELDS], i: usize) -> bool
+    requires { ⌜ start (i + 1) ≤ length (now table) ⌝ }
+    ensures { λ r. ⌜ r ≡ targetHolds (now (table .entry)) (now (values .entry)) i ⌝ }
+{
+    let mut field = 0;
+    while field < FIELDS {
+        let low = low_at(table, i, field);
+        let high = high_at(table, i, field);
+        if !in_range(low, high, values[field]) {
+            return false;
+        }
+        field += 1;
+    }
+    true
+}
