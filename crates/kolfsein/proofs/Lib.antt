@@ -1,0 +1,2 @@
+-- The cases of document 01 that are proved.
+pub mod CasesHold

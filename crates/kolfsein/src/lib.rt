@@ -1,0 +1,36 @@
+// The library's calls for C. `include/kolfsein.h` declares them: a slice is a pointer and then its length.
+use answer::Answer;
+use answer::Request;
+use ruling::rule;
+use table::read;
+ghost use mathlib.Core.Path.{_≡_};
+ghost use mathlib.Core.List.{[], _∷_};
+ghost use lib.ListN.{length};
+ghost use Rattle.table.specs.Reading.{reading};
+ghost use Rattle.ruling.specs.Ruling.{ruling, ruledList};
+
+// Reads a table.
+#[no_mangle]
+pub extern "C" fn kolfsein_read(table: &[u8]) -> Answer
+    ensures { λ r. ⌜ r ≡ reading (now (table .entry)) ⌝ }
+{
+    read(table)
+}
+
+// Rules on a request by a table's groups, with the cards of all matching rules.
+#[no_mangle]
+pub extern "C" fn kolfsein_rule(
+    table: &[u8],
+    subject: u16,
+    resource: u16,
+    action: u16,
+    cards: &mut [u16],
+) -> Answer
+    ensures { λ r. ⌜ r ≡ ruling (now (table .entry)) (subject ∷ resource ∷ action ∷ []) (length (now (cards .entry))) ⌝ }
+    ensures { λ _. ⌜ now (cards .exit) ≡ ruledList (now (table .entry)) (subject ∷ resource ∷ action ∷ []) (length (now (cards .entry))) ⌝ }
+{
+    let request = Request {
+        values: [subject, resource, action],
+    };
+    rule(table, request, cards)
+}

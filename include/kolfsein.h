@@ -1,0 +1,77 @@
+/*
+ * Kolfsein, a verified policy engine: reading a table of rules, and ruling on a request by its groups.
+ * For C99 and C++. Link libkolfsein.a, which itself needs only C's memset.
+ *
+ * Every call takes any bytes and any values and ends. It allocates nothing, keeps nothing between calls, and reads
+ * and writes only what it is lent. The caller sees to this:
+ * - a pointer is valid for its length: table_len bytes to read, cards_len numbers to read and write;
+ * - where a length is 0 nothing is read or written there, and the pointer may be null;
+ * - the list of cards does not overlap the table.
+ */
+#ifndef KOLFSEIN_H
+#define KOLFSEIN_H
+
+#include <stddef.h>
+#include <stdint.h>
+
+#ifdef __cplusplus
+extern "C" {
+#endif
+
+/* kolfsein_answer.decision */
+enum {
+    KOLFSEIN_NOT_APPLICABLE = 0,
+    KOLFSEIN_PERMIT = 1,
+    KOLFSEIN_DENY = 2,
+    KOLFSEIN_INDETERMINATE = 3
+};
+
+/* kolfsein_answer.number: 0, or what is refused. Nodes are numbered from 0, the root. */
+enum {
+    KOLFSEIN_OK = 0,             /* nothing is refused; place 0 */
+    KOLFSEIN_LENGTH = 1,         /* under 8 bytes, or the length isn't bytes 0-1 plus 2; place 0 */
+    KOLFSEIN_VERSION = 2,        /* the version isn't 1; place 0 */
+    KOLFSEIN_NODE_COUNT = 3,     /* 0 or over 128 nodes, or the length isn't 8 + 11 x nodes; place 0 */
+    KOLFSEIN_KIND = 4,           /* a kind over 5; place: the node */
+    KOLFSEIN_SPAN = 5,           /* a span of 0, of a rule not 1, of the root not the number of nodes,
+                                    or past its parent's end; place: the node */
+    KOLFSEIN_LEVEL = 6,          /* level 9 or deeper; place: the node */
+    KOLFSEIN_RANGE = 7,          /* a low over its high, or a high over the maximum; place: the node */
+    KOLFSEIN_CARD = 8,           /* a rule with card 0, or a group with another card; place: the node */
+    KOLFSEIN_VALUE = 9,          /* a value over its field's maximum; place: the first such field,
+                                    0 subject, 1 resource, 2 action */
+    KOLFSEIN_LIST_TOO_SHORT = 10 /* the list is shorter than the cards; place 0 */
+};
+
+/* No ruling has more cards than this: a list of so many places is never too short. */
+enum { KOLFSEIN_MOST_CARDS = 127 };
+
+/* What a call hands back. In a refusal the decision and the count are 0. */
+typedef struct kolfsein_answer {
+    uint8_t number;
+    uint8_t decision;
+    size_t place;
+    size_t count;
+} kolfsein_answer;
+
+/*
+ * Reads a table. Where it is accepted: number 0, place 0, decision 0, and as count its number of nodes.
+ * Otherwise the first refusal in this order: 1, 2, 3; then 4 to 8, nodes upward, lowest number first within a node.
+ */
+kolfsein_answer kolfsein_read(const uint8_t *table, size_t table_len);
+
+/*
+ * Rules on a request (a value for each field) by a table's groups: number 0, place 0, the decision, and as count the
+ * number of matching rules. The list then holds the cards of all matching rules in table order, once for each rule,
+ * and 0 in every place after them.
+ * Otherwise the first refusal in this order: those of kolfsein_read, then 9, then 10. The list is then all 0.
+ */
+kolfsein_answer kolfsein_rule(const uint8_t *table, size_t table_len,
+                              uint16_t subject, uint16_t resource, uint16_t action,
+                              uint16_t *cards, size_t cards_len);
+
+#ifdef __cplusplus
+}
+#endif
+
+#endif
