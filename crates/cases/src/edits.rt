@@ -3,7 +3,7 @@ use crate::builder::Draft;
 use crate::tables;
 use crate::text;
 
-// The start: T, `only kind 4`, `flat 128`, `chain 8`, `bent 8`, `twigs` or `nested`.
+// The start: T, `only kind 4`, `flat 128`, `chain 8`, `bent 8`, `twigs`, `nested` or `decisions 310`.
 pub(crate) fn start(line: &[u8]) -> Draft {
     let size = short(text::number(line, 0).value);
     match text::byte(line, 0) {
@@ -14,6 +14,7 @@ pub(crate) fn start(line: &[u8]) -> Draft {
         b'b' => tables::bent(size),
         b't' => tables::twigs(),
         b'n' => tables::nested(),
+        b'd' => tables::decisions(size),
         _ => unknown(),
     }
 }
@@ -78,7 +79,7 @@ fn unknown() -> Draft {
     Draft::new(0, 0, 0, 0).cut(0)
 }
 
-fn short(value: usize) -> u16 {
+pub(crate) fn short(value: usize) -> u16 {
     (value % 65536) as u16
 }
 

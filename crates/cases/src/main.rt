@@ -1,9 +1,18 @@
-// Document 01's boundary cases for reading a table, from standard input, and sweeps over changed tables: what the
-// library answers, held to what the document says and to a separately written reader.
+// Document 01's cases of reading a table and of ruling, from standard input, sweeps over changed tables, and rulings on
+// generated ones: what the library answers, held to what the document says and to a separately written reader and
+// evaluator.
 mod builder;
+mod damage;
 mod edits;
+mod evaluator;
+mod generated;
+mod generator;
+mod random;
 mod reader;
 mod report;
+mod requests;
+mod ruling_sweep;
+mod rulings;
 mod script;
 mod sweep;
 mod tables;
@@ -15,5 +24,7 @@ fn main() {
     let n = io::read_full(0, room);
     let tally = script::cases(report::Tally::new(), report::part(room, n));
     let tally = sweep::cases(tally);
+    let tally = ruling_sweep::cases(tally);
+    let tally = generated::cases(tally);
     tally.print();
 }

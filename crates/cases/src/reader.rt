@@ -9,7 +9,10 @@ pub(crate) struct Outcome {
     pub count: usize,
 }
 
-pub(crate) fn accepted(count: usize) -> Outcome {
+pub(crate) fn accepted(count: usize) -> Outcome
+    requires { ⌜ count < 129 ⌝ }
+    ensures { λ r. ⌜ r .count < 129 ⌝ }
+{
     Outcome {
         number: 0,
         place: 0,
@@ -17,7 +20,9 @@ pub(crate) fn accepted(count: usize) -> Outcome {
     }
 }
 
-pub(crate) fn refused(number: usize, place: usize) -> Outcome {
+pub(crate) fn refused(number: usize, place: usize) -> Outcome
+    ensures { λ r. ⌜ r .count < 129 ⌝ }
+{
     Outcome {
         number,
         place,
@@ -26,7 +31,9 @@ pub(crate) fn refused(number: usize, place: usize) -> Outcome {
 }
 
 // Refusals 1, 2 and 3, then the nodes upward.
-pub(crate) fn read(table: &[u8]) -> Outcome {
+pub(crate) fn read(table: &[u8]) -> Outcome
+    ensures { λ r. ⌜ r .count < 129 ⌝ }
+{
     let length = table.len();
     if length < 8 {
         return refused(1, 0);
@@ -53,6 +60,7 @@ pub(crate) fn read(table: &[u8]) -> Outcome {
 // The first node with a fault, or none.
 fn nodes(table: &[u8], count: usize) -> Outcome
     requires { ⌜ count < 129 ⌝ }
+    ensures { λ r. ⌜ r .count < 129 ⌝ }
 {
     let mut node = 0;
     while node < count {
@@ -109,20 +117,18 @@ fn wrong_range(table: &[u8], node: usize, field: usize) -> bool
     requires { ⌜ node < 128 ⌝ }
     requires { ⌜ field < 3 ⌝ }
 {
-    let low = byte(table, start(node) + 5 + 2 * field);
-    let high = byte(table, start(node) + 6 + 2 * field);
-    low > high || high > byte(table, 3 + field)
+    let most = high(table, node, field);
+    low(table, node, field) > most || most > byte(table, 3 + field)
 }
 
 // A rule with card 0, or a group with another card.
 fn wrong_card(table: &[u8], node: usize) -> bool
     requires { ⌜ node < 128 ⌝ }
 {
-    let card = pair(table, start(node) + 3);
     if is_rule(table, node) {
-        card == 0
+        card(table, node) == 0
     } else {
-        card != 0
+        card(table, node) != 0
     }
 }
 
@@ -140,7 +146,7 @@ fn level(table: &[u8], node: usize) -> usize
 }
 
 // The latest earlier node whose span reaches over this one; the root for want of another.
-fn parent(table: &[u8], node: usize) -> usize
+pub(crate) fn parent(table: &[u8], node: usize) -> usize
     requires { ⌜ 0 < node ⌝ }
     requires { ⌜ node < 128 ⌝ }
     ensures { λ r. ⌜ r < node ⌝ }
@@ -156,13 +162,13 @@ fn parent(table: &[u8], node: usize) -> usize
 }
 
 // The number after that of the last node under a node.
-fn end(table: &[u8], node: usize) -> usize
+pub(crate) fn end(table: &[u8], node: usize) -> usize
     requires { ⌜ node < 128 ⌝ }
 {
     node + span(table, node)
 }
 
-fn kind(table: &[u8], node: usize) -> usize
+pub(crate) fn kind(table: &[u8], node: usize) -> usize
     requires { ⌜ node < 128 ⌝ }
 {
     byte(table, start(node))
@@ -175,11 +181,34 @@ fn span(table: &[u8], node: usize) -> usize
     pair(table, start(node) + 1)
 }
 
-fn is_rule(table: &[u8], node: usize) -> bool
+pub(crate) fn is_rule(table: &[u8], node: usize) -> bool
     requires { ⌜ node < 128 ⌝ }
 {
     let own = kind(table, node);
     own == 4 || own == 5
+}
+
+pub(crate) fn card(table: &[u8], node: usize) -> u16
+    requires { ⌜ node < 128 ⌝ }
+{
+    pair(table, start(node) + 3) as u16
+}
+
+// The ends of a node's range of a field.
+pub(crate) fn low(table: &[u8], node: usize, field: usize) -> usize
+    requires { ⌜ node < 128 ⌝ }
+    requires { ⌜ field < 3 ⌝ }
+    ensures { λ r. ⌜ r < 256 ⌝ }
+{
+    byte(table, start(node) + 5 + 2 * field)
+}
+
+pub(crate) fn high(table: &[u8], node: usize, field: usize) -> usize
+    requires { ⌜ node < 128 ⌝ }
+    requires { ⌜ field < 3 ⌝ }
+    ensures { λ r. ⌜ r < 256 ⌝ }
+{
+    byte(table, start(node) + 6 + 2 * field)
 }
 
 // Where a node's record starts.
@@ -191,7 +220,7 @@ fn start(node: usize) -> usize
 }
 
 // Two bytes, big-endian.
-fn pair(table: &[u8], at: usize) -> usize
+pub(crate) fn pair(table: &[u8], at: usize) -> usize
     requires { ⌜ at < 2000 ⌝ }
     ensures { λ r. ⌜ r < 65536 ⌝ }
 {
@@ -199,13 +228,13 @@ fn pair(table: &[u8], at: usize) -> usize
 }
 
 // A byte, or 0 past the end.
-fn byte(table: &[u8], at: usize) -> usize
+pub(crate) fn byte(table: &[u8], at: usize) -> usize
     ensures { λ r. ⌜ r < 256 ⌝ }
 {
     if at < table.len() { wide(table[at]) } else { 0 }
 }
 
-fn wide(value: u8) -> usize
+pub(crate) fn wide(value: u8) -> usize
     ensures { λ r. ⌜ r < 256 ⌝ }
 {
     value as usize

@@ -90,7 +90,7 @@ fn swept(tally: Tally, name: &[u8], draft: Draft, way: u8, turns: usize) -> Tall
     let outcomes = sweep.outcomes;
     print_outcomes(outcomes);
     report::print_differences(sweep.differences);
-    tally.added(0, turns, sweep.differences)
+    tally.added(0, turns, 0, sweep.differences)
 }
 
 fn sweeping(draft: Draft, way: u8, turns: usize) -> Sweep {

@@ -150,6 +150,33 @@ fn path(draft: Draft, first: u16, end: u16) -> Draft {
     made
 }
 
+// Three groups right under the root, each over two rules, which give a request with subject 1 the decisions that the
+// digits of a number say. A rule's card is its node.
+pub(crate) fn decisions(digits: u16) -> Draft {
+    let draft = Draft::new(10, 1, 0, 0)
+        .record(0, 0, 10, 0)
+        .range(0, 0, 0, 1);
+    let draft = giving(draft, 1, digits / 100 % 10);
+    let draft = giving(draft, 4, digits / 10 % 10);
+    giving(draft, 7, digits % 10)
+}
+
+// An only-one group: with no matching rule, a matching rule to permit or to deny, or one of each.
+fn giving(draft: Draft, node: u16, decision: u16) -> Draft
+    requires { ⌜ node < 10 ⌝ }
+{
+    let draft = draft.record(node, 1, 3, 0).range(node, 0, 0, 1);
+    let draft = draft
+        .record(node + 1, 4, 1, node + 1)
+        .record(node + 2, 5, 1, node + 2);
+    match decision {
+        1 => draft.range(node + 1, 0, 1, 1),
+        2 => draft.range(node + 2, 0, 1, 1),
+        3 => draft.range(node + 1, 0, 1, 1).range(node + 2, 0, 1, 1),
+        _ => draft,
+    }
+}
+
 // The kind and the span of each node of a nested table: down to level 8, with empty groups on levels 2, 3 and 8.
 const KINDS: [u8; 24] = [
     3,

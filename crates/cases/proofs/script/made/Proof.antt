@@ -7,10 +7,10 @@ use Rattle.cases.proofs.script.made.Statement.{statement}
 use Rattle.cases.proofs.script.made.Tie as tie
 
 abbrev Inv-loop : tie.InvT-loop
-Inv-loop line colon draft₀ comma₀ draft comma = comma ≤ length line
+Inv-loop line end draft₀ comma₀ draft comma = comma ≤ length line
 
 abbrev μ-loop : tie.MeasureT-loop
-μ-loop line colon draft₀ comma₀ draft comma = colon - comma
+μ-loop line end draft₀ comma₀ draft comma = end - comma
 
 start-requires : tie.Need-start-requires Inv-loop μ-loop
 start-requires c κs = search needs

@@ -1,0 +1,26 @@
+// Numbers drawn one after another: a Lehmer generator, modulo the prime 2^31 - 1.
+ghost use Prim.Native.Nat.{_<_};
+
+pub(crate) const SEED: usize = 31415926;
+
+// A number below a bound.
+pub(crate) fn below(state: &mut usize, bound: usize) -> usize
+    requires { ⌜ 0 < bound ⌝ }
+    ensures { λ r. ⌜ r < bound ⌝ }
+{
+    let drawn = *state % 2147483647 * 48271 % 2147483647;
+    *state = drawn;
+    drawn % bound
+}
+
+// A byte.
+pub(crate) fn byte(state: &mut usize) -> u8 {
+    below(state, 256) as u8
+}
+
+// A byte below 4.
+pub(crate) fn small_byte(state: &mut usize) -> u8
+    ensures { λ r. ⌜ r < 4 ⌝ }
+{
+    below(state, 4) as u8
+}
