@@ -233,18 +233,33 @@ static void cases_of_t(void) {
     rules(__LINE__, &permit_overrides, request(2, 0, 0), 3, ruled(KOLFSEIN_PERMIT, 2), ten_twenty);
 }
 
-/* Values over their maxima: the first such field, before a list that is too short. */
+/* A request of T with values over their maxima, at a line of this program, a list's length, and the first such field. */
+struct over {
+    int line;
+    uint16_t values[3];
+    size_t list, field;
+};
+
+static const struct over OVER[] = {
+    {__LINE__, {3, 0, 0}, 3, 0},
+    {__LINE__, {3, 0, 0}, 0, 0}, /* before a list that is too short */
+    {__LINE__, {0, 2, 0}, 3, 1},
+    {__LINE__, {0, 0, 2}, 3, 2},
+    {__LINE__, {0, 2, 2}, 3, 1},
+    {__LINE__, {3, 2, 2}, 3, 0},
+    {__LINE__, {256, 0, 0}, 3, 0},
+    {__LINE__, {0, 256, 0}, 3, 1},
+    {__LINE__, {0, 0, 65535}, 3, 2},
+};
+
 static void fields(void) {
     struct table t = table_t();
-    rules(__LINE__, &t, request(3, 0, 0), 3, refused(KOLFSEIN_VALUE, 0), NULL);
-    rules(__LINE__, &t, request(3, 0, 0), 0, refused(KOLFSEIN_VALUE, 0), NULL);
-    rules(__LINE__, &t, request(0, 2, 0), 3, refused(KOLFSEIN_VALUE, 1), NULL);
-    rules(__LINE__, &t, request(0, 0, 2), 3, refused(KOLFSEIN_VALUE, 2), NULL);
-    rules(__LINE__, &t, request(0, 2, 2), 3, refused(KOLFSEIN_VALUE, 1), NULL);
-    rules(__LINE__, &t, request(3, 2, 2), 3, refused(KOLFSEIN_VALUE, 0), NULL);
-    rules(__LINE__, &t, request(256, 0, 0), 3, refused(KOLFSEIN_VALUE, 0), NULL);
-    rules(__LINE__, &t, request(0, 256, 0), 3, refused(KOLFSEIN_VALUE, 1), NULL);
-    rules(__LINE__, &t, request(0, 0, 65535), 3, refused(KOLFSEIN_VALUE, 2), NULL);
+    size_t i;
+    for (i = 0; i < sizeof OVER / sizeof OVER[0]; i++) {
+        const struct over *o = &OVER[i];
+        rules(o->line, &t, request(o->values[0], o->values[1], o->values[2]), o->list,
+              refused(KOLFSEIN_VALUE, o->field), NULL);
+    }
 }
 
 /* A root over an only-one group with two matching permit rules, and an empty root of each kind. */

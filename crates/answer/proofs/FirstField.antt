@@ -12,18 +12,16 @@ use Rattle.answer.specs.Fields.{fields}
 use Rattle.answer.specs.Requests.{value, Within, valueFault, firstFrom, fieldFault}
 
 module _ (p : ℕ → Bool) where
-  first-here : (i k : ℕ) → p i ≡ true → firstFrom p i (suc k) ≡ i
-  first-here i k e = ap (λ b. cond b i (firstFrom p (i + 1) k)) e
-
-  first-later : (i k : ℕ) → p i ≡ false → firstFrom p i (suc k) ≡ firstFrom p (i + 1) k
-  first-later i k e = ap (λ b. cond b i (firstFrom p (i + 1) k)) e
+  -- one number more, by whether it passes
+  first-more : (i k : ℕ) (b : Bool) → p i ≡ b → firstFrom p i (suc k) ≡ cond b i (firstFrom p (i + 1) k)
+  first-more i k b e = ap (λ x. cond x i (firstFrom p (i + 1) k)) e
 
   -- where none of k passes, it is past them
   first-none : (k i : ℕ) → ((j : ℕ) → i ≤ j → j < i + k → p j ≡ false) → firstFrom p i k ≡ i + k
   first-none zero i h = omega arith
   first-none (suc k) i h =
       let z : i + 1 + k ≡ i + suc k = omega arith in
-      first-later i k (h i (omega arith) (omega arith)) ∙ first-none k (i + 1) (λ j l r. h j (omega arith) (omega arith)) ∙ z
+      first-more i k false (h i (omega arith) (omega arith)) ∙ first-none k (i + 1) (λ j l r. h j (omega arith) (omega arith)) ∙ z
 
   -- it is no earlier than the first asked, and none before it passes
   first-least : (k i : ℕ) → (i ≤ firstFrom p i k) × ((j : ℕ) → i ≤ j → j < firstFrom p i k → p j ≡ false)
@@ -32,13 +30,13 @@ module _ (p : ℕ → Bool) where
     where
       by : (b : Bool) → p i ≡ b → (i + 1 ≤ firstFrom p (i + 1) k) × ((j : ℕ) → i + 1 ≤ j → j < firstFrom p (i + 1) k → p j ≡ false) →
           (i ≤ firstFrom p i (suc k)) × ((j : ℕ) → i ≤ j → j < firstFrom p i (suc k) → p j ≡ false)
-      by true e h = (omega (arith, first-here i k e), λ j l r. absurd (omega (arith, first-here i k e)))
+      by true e h = (omega (arith, first-more i k true e), λ j l r. absurd (omega (arith, first-more i k true e)))
       by false e h = (
-        omega (arith, first-later i k e, h .0),
+        omega (arith, first-more i k false e, h .0),
         λ j l r.
             ⊎-elim
             (λ (m : i ≡ j). ap p (sym m) ∙ e)
-            (λ (m : i < j). h .1 j (omega arith) (omega (arith, first-later i k e)))
+            (λ (m : i < j). h .1 j (omega arith) (omega (arith, first-more i k false e)))
             (eq-or-lt-of-le l),
       )
 
@@ -48,16 +46,13 @@ module _ (p : ℕ → Bool) where
   first-passes (suc k) i l = by (p i) refl (first-passes k (i + 1))
     where
       by : (b : Bool) → p i ≡ b → (firstFrom p (i + 1) k < i + 1 + k → p (firstFrom p (i + 1) k) ≡ true) → p (firstFrom p i (suc k)) ≡ true
-      by true e h = ap p (first-here i k e) ∙ e
-      by false e h = ap p (first-later i k e) ∙ h (omega (arith, first-later i k e))
+      by true e h = ap p (first-more i k true e) ∙ e
+      by false e h = ap p (first-more i k false e) ∙ h (omega (arith, first-more i k false e))
 
   -- one step of a search that stands at i, of n in all
 
-  pub search-here : (i n : ℕ) → i < n → p i ≡ true → firstFrom p i (n - i) ≡ i
-  search-here i n l e = let z : n - i ≡ suc (n - (i + 1)) = omega arith in ap (firstFrom p i) z ∙ first-here i (n - (i + 1)) e
-
-  pub search-later : (i n : ℕ) → i < n → p i ≡ false → firstFrom p i (n - i) ≡ firstFrom p (i + 1) (n - (i + 1))
-  search-later i n l e = let z : n - i ≡ suc (n - (i + 1)) = omega arith in ap (firstFrom p i) z ∙ first-later i (n - (i + 1)) e
+  pub search-more : (i n : ℕ) (b : Bool) → i < n → p i ≡ b → firstFrom p i (n - i) ≡ cond b i (firstFrom p (i + 1) (n - (i + 1)))
+  search-more i n b l e = let z : n - i ≡ suc (n - (i + 1)) = omega arith in ap (firstFrom p i) z ∙ first-more i (n - (i + 1)) b e
 
   pub search-ends : (i n : ℕ) → n ≤ i → firstFrom p i (n - i) ≡ i
   search-ends i n l = let z : n - i ≡ 0 = omega arith in ap (firstFrom p i) z

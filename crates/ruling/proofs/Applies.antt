@@ -13,6 +13,7 @@ use Rattle.table.specs.Layout.{span, count}
 use Rattle.table.specs.Tree.{endOf}
 use Rattle.table.specs.WellFormed.{WellFormed}
 use Rattle.table.proofs.Tests.{lt-or-ge}
+use Rattle.table.proofs.ParentsAndSpansAgree.{reaches-through}
 use Rattle.ruling.specs.Targets.{targetHolds, applies}
 use Rattle.ruling.specs.Walk.{HoldAbove}
 use Rattle.ruling.proofs.Tests.{different, every-true, every-false, every-each}
@@ -22,11 +23,11 @@ module _ (t q : List ℕ) where
   abbrev passes : ℕ → ℕ → Bool
   passes i j = not (ltb i (endOf t j)) || targetHolds t q j
 
-  passes-over : (i j : ℕ) → i < endOf t j → passes i j ≡ targetHolds t q j
-  passes-over i j r = ap (λ b. not b || targetHolds t q j) (lt-ltb i (endOf t j) r)
+  passes-by : (i j : ℕ) (b : Bool) → ltb i (endOf t j) ≡ b → passes i j ≡ (not b || targetHolds t q j)
+  passes-by i j b e = ap (λ x. not x || targetHolds t q j) e
 
-  passes-short : (i j : ℕ) → endOf t j ≤ i → passes i j ≡ true
-  passes-short i j r = ap (λ b. not b || targetHolds t q j) (le-ltb i (endOf t j) r)
+  passes-over : (i j : ℕ) → i < endOf t j → passes i j ≡ targetHolds t q j
+  passes-over i j r = passes-by i j true (lt-ltb i (endOf t j) r)
 
   -- a node applies exactly where the target of each node that reaches over it holds
 
@@ -38,7 +39,7 @@ module _ (t q : List ℕ) where
       each j l =
           ⊎-elim
           (λ (r : i < endOf t j). passes-over i j r ∙ h j (omega arith) r)
-          (λ (r : endOf t j ≤ i). passes-short i j r)
+          (λ (r : endOf t j ≤ i). passes-by i j false (le-ltb i (endOf t j) r))
           (lt-or-ge i (endOf t j))
 
   pub applies-each : (i : ℕ) → applies t q i ≡ true → (j : ℕ) → j ≤ i → i < endOf t j → targetHolds t q j ≡ true
@@ -86,14 +87,7 @@ module _ (t q : List ℕ) where
   pub applies-down : WellFormed t → (i m : ℕ) → i < count t → i ≤ m → m < endOf t i → applies t q i ≡ false → applies t q m ≡ false
   applies-down w i m c l r e = by (applies t q m) refl
     where
-      over : (j : ℕ) → j ≤ i → i < endOf t j → m < endOf t j
-      over j x y =
-          ⊎-elim
-          (λ (k : j ≡ i). omega (arith, ap (span t) k))
-          (λ (k : j < i). omega (arith, w .nested j i (omega arith) k y))
-          (eq-or-lt-of-le x)
-
       by : (b : Bool) → applies t q m ≡ b → applies t q m ≡ false
       by false h = h
       by true h =
-          absurd (different (sym (applies-where i (λ j x y. applies-each m h j (omega arith) (over j x y))) ∙ e))
+          absurd (different (sym (applies-where i (λ j x y. applies-each m h j (omega arith) (reaches-through t w j i m (omega arith) x y r))) ∙ e))

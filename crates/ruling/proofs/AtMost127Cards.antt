@@ -1,7 +1,7 @@
 -- No ruling of an accepted table has more than 127 cards: a table of more than one node has a group as its root.
 -- Assumes nothing.
 use mathlib.Core.Path.{_≡_, ap, _∙_}
-use mathlib.Core.Bool.{Bool}
+use mathlib.Core.Bool.{Bool, false}
 use mathlib.Core.Logic.{⊎-elim}
 use mathlib.Core.List.{List}
 use Prim.Native.Nat.{ℕ, suc, _+_, _-_, _≤_, _<_}
@@ -13,7 +13,7 @@ use Rattle.table.specs.WellFormed.{WellFormed}
 use Rattle.table.proofs.Tests.{lt-or-ge}
 use Rattle.table.proofs.AcceptedIsWellFormed.{well-formed}
 use Rattle.ruling.specs.Meaning.{cardsFrom, cards}
-use Rattle.ruling.proofs.Cards.{matches-group, cards-pass, cards-few}
+use Rattle.ruling.proofs.Cards.{matches-group, cards-more, cards-few}
 
 module _ (a : ℕ → Bool) (t : List ℕ) (w : WellFormed t) where
   group-root : 1 < count t → kind t 0 < 4
@@ -28,7 +28,7 @@ module _ (a : ℕ → Bool) (t : List ℕ) (w : WellFormed t) where
       ⊎-elim
       (λ (l : 1 < count t).
       let z : count t ≡ suc (count t - 1) = omega arith in
-      let e = ap (cardsFrom a t 0) z ∙ cards-pass a t 0 (count t - 1) (matches-group a t 0 (group-root l)) in
+      let e = ap (cardsFrom a t 0) z ∙ cards-more a t 0 (count t - 1) false (matches-group a t 0 (group-root l)) in
       omega (arith, ap length e, cards-few a t (count t - 1) (0 + 1), w .few))
       (λ (l : count t ≤ 1). omega (arith, cards-few a t (count t) 0))
       (lt-or-ge 1 (count t))

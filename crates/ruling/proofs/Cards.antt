@@ -26,19 +26,17 @@ module _ (a : ℕ → Bool) (t : List ℕ) where
   unfolding cardsFrom
   cards-none i = refl
 
-  pub cards-match : (i n : ℕ) → matches a t i ≡ true → cardsFrom a t i (suc n) ≡ card t i ∷ cardsFrom a t (i + 1) n
+  -- one node more, by whether it is a rule that matches
+  pub cards-more : (i n : ℕ) (b : Bool) → matches a t i ≡ b →
+      cardsFrom a t i (suc n) ≡ cond b (card t i ∷ cardsFrom a t (i + 1) n) (cardsFrom a t (i + 1) n)
   unfolding cardsFrom
-  cards-match i n e = ap (λ b. cond b (card t i ∷ cardsFrom a t (i + 1) n) (cardsFrom a t (i + 1) n)) e
-
-  pub cards-pass : (i n : ℕ) → matches a t i ≡ false → cardsFrom a t i (suc n) ≡ cardsFrom a t (i + 1) n
-  unfolding cardsFrom
-  cards-pass i n e = ap (λ b. cond b (card t i ∷ cardsFrom a t (i + 1) n) (cardsFrom a t (i + 1) n)) e
+  cards-more i n b e = ap (λ x. cond x (card t i ∷ cardsFrom a t (i + 1) n) (cardsFrom a t (i + 1) n)) e
 
   -- where no node applies, there is no card
   pub cards-skip : (n i : ℕ) → ((m : ℕ) → i ≤ m → m < i + n → a m ≡ false) → cardsFrom a t i n ≡ []
   cards-skip zero i h = cards-none i
   cards-skip (suc n) i h =
-      cards-pass i n (matches-not i (h i (omega arith) (omega arith)))
+      cards-more i n false (matches-not i (h i (omega arith) (omega arith)))
       ∙ cards-skip n (i + 1) (λ m l r. h m (omega arith) (omega arith))
 
   -- the cards of nodes, and then of those after them
@@ -55,10 +53,10 @@ module _ (a : ℕ → Bool) (t : List ℕ) where
       by : (b : Bool) → matches a t i ≡ b → cardsFrom a t (i + 1) (m + n) ≡ cardsFrom a t (i + 1) m ++ cardsFrom a t (i + suc m) n →
           cardsFrom a t i (suc (m + n)) ≡ cardsFrom a t i (suc m) ++ cardsFrom a t (i + suc m) n
       by true e h =
-          cards-match i (m + n) e ∙ ap (λ cs. card t i ∷ cs) h
-          ∙ ap (λ cs. cs ++ cardsFrom a t (i + suc m) n) (sym (cards-match i m e))
+          cards-more i (m + n) true e ∙ ap (λ cs. card t i ∷ cs) h
+          ∙ ap (λ cs. cs ++ cardsFrom a t (i + suc m) n) (sym (cards-more i m true e))
       by false e h =
-          cards-pass i (m + n) e ∙ h ∙ ap (λ cs. cs ++ cardsFrom a t (i + suc m) n) (sym (cards-pass i m e))
+          cards-more i (m + n) false e ∙ h ∙ ap (λ cs. cs ++ cardsFrom a t (i + suc m) n) (sym (cards-more i m false e))
 
   -- no more cards than nodes
   pub cards-few : (n i : ℕ) → length (cardsFrom a t i n) ≤ n
@@ -66,5 +64,5 @@ module _ (a : ℕ → Bool) (t : List ℕ) where
   cards-few (suc n) i = by (matches a t i) refl (cards-few n (i + 1))
     where
       by : (b : Bool) → matches a t i ≡ b → length (cardsFrom a t (i + 1) n) ≤ n → length (cardsFrom a t i (suc n)) ≤ suc n
-      by true e h = omega (arith, ap length (cards-match i n e), h)
-      by false e h = omega (arith, ap length (cards-pass i n e), h)
+      by true e h = omega (arith, ap length (cards-more i n true e), h)
+      by false e h = omega (arith, ap length (cards-more i n false e), h)

@@ -12,7 +12,7 @@ use lib.ListN.{getD, length, length-append}
 use lib.Seq.{getD-at}
 use Rattle.table.specs.Layout.{count, card}
 use Rattle.ruling.specs.Meaning.{matches, cardsFrom, cards}
-use Rattle.ruling.proofs.Cards.{cards-none, cards-match, cards-pass, cards-join}
+use Rattle.ruling.proofs.Cards.{cards-none, cards-more, cards-join}
 
 -- how many rules match among the nodes below n
 abbrev pub matching : (ℕ → Bool) → List ℕ → ℕ → ℕ
@@ -27,11 +27,8 @@ pub record Origin (a : ℕ → Bool) (t : List ℕ) (n k : ℕ) : Type 0 where
   pub before : matching a t rule ≡ k
 
 module _ (a : ℕ → Bool) (t : List ℕ) where
-  matching-hit : (n : ℕ) → matches a t n ≡ true → matching a t (suc n) ≡ suc (matching a t n)
-  matching-hit n e = ap (λ b. cond b (suc (matching a t n)) (matching a t n)) e
-
-  matching-miss : (n : ℕ) → matches a t n ≡ false → matching a t (suc n) ≡ matching a t n
-  matching-miss n e = ap (λ b. cond b (suc (matching a t n)) (matching a t n)) e
+  matching-more : (n : ℕ) (b : Bool) → matches a t n ≡ b → matching a t (suc n) ≡ cond b (suc (matching a t n)) (matching a t n)
+  matching-more n b e = ap (λ x. cond x (suc (matching a t n)) (matching a t n)) e
 
   counted : (n : ℕ) → length (cardsFrom a t 0 n) ≡ matching a t n
   counted zero = ap length (cards-none a t 0)
@@ -47,9 +44,9 @@ module _ (a : ℕ → Bool) (t : List ℕ) where
       by : (b : Bool) → matches a t n ≡ b → length (cardsFrom a t 0 n) ≡ matching a t n →
           length (cardsFrom a t 0 n) + length (cardsFrom a t n 1) ≡ matching a t (suc n)
       by true e h =
-          omega (arith, matching-hit n e, ap length (cards-match a t n 0 e), ap length (cards-none a t (n + 1)))
+          omega (arith, matching-more n true e, ap length (cards-more a t n 0 true e), ap length (cards-none a t (n + 1)))
       by false e h =
-          omega (arith, matching-miss n e, ap length (cards-pass a t n 0 e), ap length (cards-none a t (n + 1)))
+          omega (arith, matching-more n false e, ap length (cards-more a t n 0 false e), ap length (cards-none a t (n + 1)))
 
   -- "as count, the number of matching rules"
   pub number-of-cards : length (cards a t) ≡ matching a t (count t)
@@ -65,7 +62,7 @@ module _ (a : ℕ → Bool) (t : List ℕ) where
       ∙ ap (λ cs. getD cs (matching a t i) 0)
       (cards-join a t i (suc (count t - suc i)) 0
       ∙ ap (λ m. cardsFrom a t 0 i ++ cardsFrom a t m (suc (count t - suc i))) y
-      ∙ ap (λ cs. cardsFrom a t 0 i ++ cs) (cards-match a t i (count t - suc i) e))
+      ∙ ap (λ cs. cardsFrom a t 0 i ++ cs) (cards-more a t i (count t - suc i) true e))
       ∙ getD-at (cardsFrom a t 0 i) (card t i) rest 0 (matching a t i) (counted i)
 
   origin : (n k : ℕ) → k < matching a t n → Origin a t n k
@@ -80,8 +77,8 @@ module _ (a : ℕ → Bool) (t : List ℕ) where
           ⊎-elim
           (λ (h : k ≡ matching a t n). record { rule = n; inside = omega arith; hit = e; before = sym h })
           (λ (h : k < matching a t n). later (earlier h))
-          (eq-or-lt-of-le (omega (arith, matching-hit n e)))
-      by false e earlier = later (earlier (omega (arith, matching-miss n e)))
+          (eq-or-lt-of-le (omega (arith, matching-more n true e)))
+      by false e earlier = later (earlier (omega (arith, matching-more n false e)))
 
   -- and nothing else is listed
   pub nothing-else : (k : ℕ) → k < length (cards a t) → Origin a t (count t) k

@@ -23,7 +23,8 @@ use Rattle.ruling.specs.Walk.{Whole}
 use Rattle.ruling.proofs.Tests.{different}
 use Rattle.ruling.proofs.Forest.{within-none, within-more, whole-under, whole-after}
 use Rattle.ruling.proofs.Applies.{applies-each, applies-down}
-use Rattle.ruling.proofs.Decisions.{gives-not, gives-rule, gives-group}
+use Rattle.ruling.proofs.Decisions.{decisions-list, gives-not, gives-rule, gives-group}
+use Rattle.ruling.proofs.LevelByLevel.{level-by-level}
 
 -- "A matching rule gives its effect, any other rule none. A group whose target fails gives none. Otherwise a group asks its children",
 -- which give ds
@@ -80,33 +81,23 @@ module _ (t q : List ℕ) (w : WellFormed t) where
     group l z false true e f = z e ∙ sym (gives-not a t i ds e)
     group l z false false e f = sym (gives-not a t i ds e)
 
+    by-kind : (r : Bool) → isRule t i ≡ r →
+        givesAsWorded t q i ds ≡ cond r (cond (a i) (effect (kind t i)) notApplicable) (cond (targetHolds t q i) (way (kind t i) ds) notApplicable)
+    by-kind r e =
+        ap (λ x. cond x (cond (a i) (effect (kind t i)) notApplicable) (cond (targetHolds t q i) (way (kind t i) ds) notApplicable)) e
+
     gives-as-worded : (kind t i < 4 → a i ≡ false → way (kind t i) ds ≡ notApplicable) → givesAsWorded t q i ds ≡ gives a t i ds
     gives-as-worded z =
         ⊎-elim
-        (λ (l : kind t i < 4).
-        ap (λ x. cond x (cond (a i) (effect (kind t i)) notApplicable) (cond (targetHolds t q i) (way (kind t i) ds) notApplicable)) (lt-leb 4 (kind t i) l)
-        ∙ group l (z l) (a i) (targetHolds t q i) refl refl)
-        (λ (l : 4 ≤ kind t i).
-        ap (λ x. cond x (cond (a i) (effect (kind t i)) notApplicable) (cond (targetHolds t q i) (way (kind t i) ds) notApplicable)) (le-leb 4 (kind t i) l)
-        ∙ rule l (a i) refl)
+        (λ (l : kind t i < 4). by-kind false (lt-leb 4 (kind t i) l) ∙ group l (z l) (a i) (targetHolds t q i) refl refl)
+        (λ (l : 4 ≤ kind t i). by-kind true (le-leb 4 (kind t i) l) ∙ rule l (a i) refl)
         (lt-or-ge (kind t i) 4)
 
   worded : (n i end : ℕ) → Whole t i end → decisionsAsWorded t q (forestWithin n t i end) ≡ decisions a t (forestWithin n t i end)
-  unfolding forestWithin
-  worded zero i end r = refl
-  worded (suc n) i end r =
-      ⊎-elim
-      (λ (b : i < end).
-      let c : i < count t = omega (arith, r .inside) in
-      let below = decisions a t (forestWithin n t (i + 1) (endOf t i)) in
-      ap (decisionsAsWorded t q) (within-more n t i end b)
-      ∙ ap (λ ds. givesAsWorded t q i ds ∷ decisionsAsWorded t q (forestWithin n t (endOf t i) end)) (worded n (i + 1) (endOf t i) (whole-under t w i c))
-      ∙ ap (λ d. d ∷ decisionsAsWorded t q (forestWithin n t (endOf t i) end)) (gives-as-worded i c below (λ l e. quiet n i c e l))
-      ∙ ap (λ ds. gives a t i below ∷ ds) (worded n (endOf t i) end (whole-after t w i end r))
-      ∙ sym (ap (decisions a t) (within-more n t i end b)))
-      (λ (b : end ≤ i).
-      ap (decisionsAsWorded t q) (within-none (suc n) t i end b) ∙ sym (ap (decisions a t) (within-none (suc n) t i end b)))
-      (lt-or-ge i end)
+  worded =
+      level-by-level t w (decisionsAsWorded t q) (decisions a t) (givesAsWorded t q) (gives a t)
+      (record { none = refl; more = λ i u v. refl }) (decisions-list a t)
+      (λ n i c. gives-as-worded i c (decisions a t (forestWithin n t (i + 1) (endOf t i))) (λ l e. quiet n i c e l))
 
 -- the decision of every node of an accepted table
 pub decision-as-worded : (t q : List ℕ) → Accepted t → (i : ℕ) → i < count t →

@@ -16,29 +16,34 @@ use Rattle.ruling.specs.Forest.{Forest, empty, node, run, under}
 use Rattle.ruling.specs.Meaning.{effect, gives, decisions, decision}
 use Rattle.ruling.specs.Walk.{Whole}
 use Rattle.ruling.proofs.Forest.{run-none, run-more}
+use Rattle.ruling.proofs.LevelByLevel.{Lists}
 
 choice-below : (b : Bool) (x y : ℕ) → (b ≡ true → x < 4) → (b ≡ false → y < 4) → cond b x y < 4
 choice-below true x y hx hy = hx refl
 choice-below false x y hx hy = hy refl
 
 module _ (a : ℕ → Bool) (t : List ℕ) where
+  -- the decisions of nodes on one level go by what each gives
+  pub decisions-list : Lists (decisions a t) (gives a t)
+  decisions-list = record { none = refl; more = λ i u v. refl }
+
   -- what a node gives, by whether it applies and by its kind
 
   pub gives-not : (i : ℕ) (ds : List ℕ) → a i ≡ false → gives a t i ds ≡ notApplicable
   unfolding gives
   gives-not i ds e = ap (λ b. cond b (cond (isRule t i) (effect (kind t i)) (way (kind t i) ds)) notApplicable) e
 
-  pub gives-rule : (i : ℕ) (ds : List ℕ) → a i ≡ true → 4 ≤ kind t i → gives a t i ds ≡ effect (kind t i)
+  gives-by-kind : (i : ℕ) (ds : List ℕ) (r : Bool) → a i ≡ true → isRule t i ≡ r → gives a t i ds ≡ cond r (effect (kind t i)) (way (kind t i) ds)
   unfolding gives
-  gives-rule i ds e l =
+  gives-by-kind i ds r e k =
       ap (λ b. cond b (cond (isRule t i) (effect (kind t i)) (way (kind t i) ds)) notApplicable) e
-      ∙ ap (λ b. cond b (effect (kind t i)) (way (kind t i) ds)) (le-leb 4 (kind t i) l)
+      ∙ ap (λ b. cond b (effect (kind t i)) (way (kind t i) ds)) k
+
+  pub gives-rule : (i : ℕ) (ds : List ℕ) → a i ≡ true → 4 ≤ kind t i → gives a t i ds ≡ effect (kind t i)
+  gives-rule i ds e l = gives-by-kind i ds true e (le-leb 4 (kind t i) l)
 
   pub gives-group : (i : ℕ) (ds : List ℕ) → a i ≡ true → kind t i < 4 → gives a t i ds ≡ way (kind t i) ds
-  unfolding gives
-  gives-group i ds e l =
-      ap (λ b. cond b (cond (isRule t i) (effect (kind t i)) (way (kind t i) ds)) notApplicable) e
-      ∙ ap (λ b. cond b (effect (kind t i)) (way (kind t i) ds)) (lt-leb 4 (kind t i) l)
+  gives-group i ds e l = gives-by-kind i ds false e (lt-leb 4 (kind t i) l)
 
   -- each is one of the four decisions
 

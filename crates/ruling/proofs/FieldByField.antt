@@ -9,7 +9,7 @@ use borrow.Author.Tests.{le-leb, lt-leb, lt-ltb, le-ltb}
 use lib.Dec.{leb}
 use Rattle.answer.specs.Fields.{fields}
 use Rattle.answer.specs.Requests.{value, valueFault, firstFrom, fieldFault}
-use Rattle.answer.proofs.FirstField.{search-here, search-later, search-ends}
+use Rattle.answer.proofs.FirstField.{search-more, search-ends}
 use Rattle.table.specs.Layout.{maximum, low, high}
 use Rattle.ruling.specs.Targets.{everyBelow, inRange, fieldHolds, targetHolds}
 use Rattle.ruling.proofs.Tests.{every-more, every-false}
@@ -52,11 +52,11 @@ module _ (t q : List ℕ) where
 
   pub field-found : (f m : ℕ) → f < fields → m ≡ maximum t f → m < value q f → Searched f → f ≡ fieldFault (maximum t) q
   field-found f m l e h s =
-      sym (s ∙ search-here (valueFault (maximum t) q) f fields l (lt-ltb (maximum t f) (value q f) (omega arith)))
+      sym (s ∙ search-more (valueFault (maximum t) q) f fields true l (lt-ltb (maximum t f) (value q f) (omega arith)))
 
   pub field-passed : (f m : ℕ) → f < fields → m ≡ maximum t f → value q f ≤ m → Searched f → Searched (f + 1)
   field-passed f m l e h s =
-      s ∙ search-later (valueFault (maximum t) q) f fields l (le-ltb (maximum t f) (value q f) (omega arith))
+      s ∙ search-more (valueFault (maximum t) q) f fields false l (le-ltb (maximum t f) (value q f) (omega arith))
 
   pub no-field : (f : ℕ) → f ≡ fields → Searched f → fields ≡ fieldFault (maximum t) q
   no-field f e s = sym (s ∙ search-ends (valueFault (maximum t) q) f fields (omega arith) ∙ e)

@@ -1,6 +1,7 @@
 -- What the proofs of several functions use, and the theorems about ruling.
 pub mod Tests
 pub mod Forest
+pub mod LevelByLevel
 pub mod FieldByField
 pub mod Applies
 pub mod Cards

@@ -1,8 +1,7 @@
 -- The ruling of an accepted table depends only on which of its nodes apply.
 -- Assumes nothing.
-use mathlib.Core.Path.{_≡_, refl, sym, ap, _∙_}
+use mathlib.Core.Path.{_≡_, refl, ap, _∙_}
 use mathlib.Core.Bool.{Bool, cond, _&&_}
-use mathlib.Core.Logic.{⊎-elim}
 use mathlib.Core.List.{List, _∷_}
 use Prim.Native.Nat.{ℕ, zero, suc, _+_, _-_, _≤_, _<_}
 use native.Mathlib.Omega.{arith}
@@ -12,44 +11,31 @@ use Rattle.table.specs.Layout.{count, kind, card}
 use Rattle.table.specs.Tree.{endOf, isRule}
 use Rattle.table.specs.Reading.{Accepted}
 use Rattle.table.specs.WellFormed.{WellFormed}
-use Rattle.table.proofs.Tests.{lt-or-ge}
 use Rattle.table.proofs.AcceptedIsWellFormed.{well-formed}
 use Rattle.ruling.specs.Forest.{forestWithin, under}
 use Rattle.ruling.specs.Targets.{applies}
 use Rattle.ruling.specs.Meaning.{effect, gives, decisions, decision, cardsFrom, cards, meaning}
 use Rattle.ruling.specs.Ruling.{groups}
 use Rattle.ruling.specs.Walk.{Whole}
-use Rattle.ruling.proofs.Forest.{within-none, within-more, whole-under, whole-after}
+use Rattle.ruling.proofs.Forest.{whole-under}
+use Rattle.ruling.proofs.Decisions.{decisions-list}
+use Rattle.ruling.proofs.LevelByLevel.{level-by-level}
 
 module _ (a b : ℕ → Bool) (t : List ℕ) (w : WellFormed t) (same : (i : ℕ) → i < count t → a i ≡ b i) where
-  gives-same : (i : ℕ) (ds es : List ℕ) → i < count t → ds ≡ es → gives a t i ds ≡ gives b t i es
+  gives-same : (i : ℕ) (ds : List ℕ) → i < count t → gives a t i ds ≡ gives b t i ds
   unfolding gives
-  gives-same i ds es l e =
+  gives-same i ds l =
       ap (λ x. cond x (cond (isRule t i) (effect (kind t i)) (way (kind t i) ds)) notApplicable) (same i l)
-      ∙ ap (λ xs. cond (b i) (cond (isRule t i) (effect (kind t i)) (way (kind t i) xs)) notApplicable) e
 
   decisions-same : (n i end : ℕ) → Whole t i end → decisions a t (forestWithin n t i end) ≡ decisions b t (forestWithin n t i end)
-  unfolding forestWithin
-  decisions-same zero i end r = refl
-  decisions-same (suc n) i end r =
-      ⊎-elim
-      (λ (h : i < end).
-      let c : i < count t = omega (arith, r .inside) in
-      let first = decisions-same n (i + 1) (endOf t i) (whole-under t w i c) in
-      let after = decisions-same n (endOf t i) end (whole-after t w i end r) in
-      ap (decisions a t) (within-more n t i end h)
-      ∙ ap (λ d. d ∷ decisions a t (forestWithin n t (endOf t i) end))
-      (gives-same i (decisions a t (forestWithin n t (i + 1) (endOf t i))) (decisions b t (forestWithin n t (i + 1) (endOf t i))) c first)
-      ∙ ap (λ ds. gives b t i (decisions b t (forestWithin n t (i + 1) (endOf t i))) ∷ ds) after
-      ∙ sym (ap (decisions b t) (within-more n t i end h)))
-      (λ (h : end ≤ i).
-      ap (decisions a t) (within-none (suc n) t i end h) ∙ sym (ap (decisions b t) (within-none (suc n) t i end h)))
-      (lt-or-ge i end)
+  decisions-same =
+      level-by-level t w (decisions a t) (decisions b t) (gives a t) (gives b t) (decisions-list a t) (decisions-list b t)
+      (λ n i l. gives-same i (decisions b t (forestWithin n t (i + 1) (endOf t i))) l)
 
   decision-same : (i : ℕ) → i < count t → decision a t i ≡ decision b t i
   decision-same i l =
-      gives-same i (decisions a t (under t i)) (decisions b t (under t i)) l
-      (decisions-same (endOf t i - (i + 1)) (i + 1) (endOf t i) (whole-under t w i l))
+      ap (gives a t i) (decisions-same (endOf t i - (i + 1)) (i + 1) (endOf t i) (whole-under t w i l))
+      ∙ gives-same i (decisions b t (under t i)) l
 
   cards-same : (n i : ℕ) → i + n ≤ count t → cardsFrom a t i n ≡ cardsFrom b t i n
   unfolding cardsFrom

@@ -15,7 +15,7 @@ use Rattle.ruling.specs.Meaning.{cardsFrom}
 use Rattle.ruling.specs.Walk.{Node, Run, cardsBetween, Gathered}
 use Rattle.ruling.proofs.Forest.{whole-under, whole-after}
 use Rattle.ruling.proofs.Applies.{applies-is, applies-under, above-root, above-child, above-after}
-use Rattle.ruling.proofs.Cards.{matches-rule, matches-group, cards-none, cards-match, cards-pass, cards-skip, cards-join, cards-few}
+use Rattle.ruling.proofs.Cards.{matches-rule, matches-group, cards-none, cards-more, cards-skip, cards-join, cards-few}
 use Rattle.answer.proofs.Stored.{stored-join}
 
 -- the table holds the record of each of its nodes
@@ -86,7 +86,7 @@ module _ (t : List ℕ) (w : WellFormed t) (q : List ℕ) where
       let z : end - i ≡ 1 = omega (arith, n .ends, w .rules i (n .some) l) in
       let m = matches-rule (applies t q) t i (own i end k true n h) l in
       let cs : cardsBetween t q i end ≡ card t i ∷ [] =
-      ap (cardsFrom (applies t q) t i) z ∙ cards-match (applies t q) t i 0 m
+      ap (cardsFrom (applies t q) t i) z ∙ cards-more (applies t q) t i 0 true m
       ∙ ap (λ ds. card t i ∷ ds) (cards-none (applies t q) t (i + 1)) in
       record {
         number = omega (arith, ap length cs);
@@ -100,7 +100,7 @@ module _ (t : List ℕ) (w : WellFormed t) (q : List ℕ) where
       let z : end - i ≡ suc (end - (i + 1)) = omega (arith, h .ends, w .spans i (h .some)) in
       let cs : cardsBetween t q i end ≡ cardsBetween t q (i + 1) end =
       ap (cardsFrom (applies t q) t i) z
-      ∙ cards-pass (applies t q) t i (end - (i + 1)) (matches-group (applies t q) t i l) in
+      ∙ cards-more (applies t q) t i (end - (i + 1)) false (matches-group (applies t q) t i l) in
       record {
         number = g .number ∙ ap (λ ds. k + length ds) (sym cs);
         list = g .list ∙ ap (sets before k) (sym cs);

@@ -27,7 +27,7 @@ pub record Whole (t : List ℕ) (i end : ℕ) : Type 0 where
   pub inside : end ≤ count t
   pub each : (j : ℕ) → i ≤ j → j < end → endOf t j ≤ end
 
--- The same of the nodes from i up to end, as of one node.
+-- The nodes from i up to end are whole, every target above the first of them holds, and there are no more cards so far than nodes.
 pub record Run (t q : List ℕ) (i end cards : ℕ) : Type 0 where
   pub whole : Whole t i end
   pub above : HoldAbove t q i

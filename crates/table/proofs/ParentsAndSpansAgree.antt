@@ -9,12 +9,20 @@ use native.Mathlib.Omega.{arith}
 use Rattle.table.specs.Layout.{span, count}
 use Rattle.table.specs.Tree.{endOf, parent, Above, itself, further}
 use Rattle.table.specs.WellFormed.{WellFormed}
-use Rattle.table.proofs.Tree.{parent-below, parent-reaches, above-earlier}
+use Rattle.table.proofs.Tree.{parent-below, parent-reaches}
 
 module _ (t : List ℕ) (w : WellFormed t) where
   -- the parent of a node other than the root reaches over it
   pub parent-over : (i : ℕ) → 0 < i → i < count t → i < endOf t (parent t i)
   parent-over i l h = parent-reaches t i 0 l (omega (arith, w .root)) .1
+
+  -- a node that reaches over one reaches over all that this one reaches over
+  pub reaches-through : (j i m : ℕ) → j < count t → j ≤ i → i < endOf t j → m < endOf t i → m < endOf t j
+  reaches-through j i m h a b o =
+      ⊎-elim
+      (λ (e : j ≡ i). omega (arith, ap (span t) e))
+      (λ (e : j < i). omega (arith, w .nested j i h e b))
+      (eq-or-lt-of-le a)
 
   pub above-reaches : {i j : ℕ} → i < count t → Above t i j → (j ≤ i) × (i < endOf t j)
   above-reaches {i} h itself = (omega arith, omega (arith, w .spans i h))
@@ -22,14 +30,7 @@ module _ (t : List ℕ) (w : WellFormed t) where
       let p = parent-below t i l in
       let r = above-reaches (omega (arith, p, h)) u in
       let o = parent-over i l h in
-      (omega (arith, r .0, p), over (parent t i) (r .0) (r .1) o)
-    where
-      over : (p : ℕ) → j ≤ p → p < endOf t j → i < endOf t p → i < endOf t j
-      over p a b o =
-          ⊎-elim
-          (λ (e : j ≡ p). omega (arith, ap (span t) e))
-          (λ (e : j < p). omega (arith, w .nested j p (omega (arith, above-earlier t u, parent-below t i l)) e b))
-          (eq-or-lt-of-le a)
+      (omega (arith, r .0, p), reaches-through j (parent t i) i (omega (arith, r .0, p, h)) (r .0) (r .1) o)
 
   reaches-by : (m i j : ℕ) → i < m → i < count t → j ≤ i → i < endOf t j → Above t i j
   reaches-by zero i j l h a b = absurd (omega arith)
