@@ -22,7 +22,8 @@ module _ (maximum : ℕ → ℕ) (q : List ℕ) (r : Ruling) (n : ℕ) where
       ∙ sym (ap (λ b. cond b (refused 9 (fieldFault maximum q)) (ruledOrShort r n)) (lt-ltb (fieldFault maximum q) fields (omega arith)))
 
   module _ (w : fields ≤ fieldFault maximum q) where
-    answered-within : ruledOrShort r n ≡ answered maximum q r n
+    -- no 9
+    pub answered-within : ruledOrShort r n ≡ answered maximum q r n
     unfolding answered
     answered-within =
         sym (ap (λ b. cond b (refused 9 (fieldFault maximum q)) (ruledOrShort r n)) (le-ltb (fieldFault maximum q) fields w))

@@ -7,7 +7,7 @@ use mathlib.Core.List.{List}
 use Prim.Native.Nat.{ℕ, zero, suc, _+_, _-_, _≤_, _<_}
 use native.Mathlib.Nat.{eq-or-lt-of-le}
 use native.Mathlib.Omega.{arith}
-use borrow.Author.Tests.{le-ltb, ltb-true, ltb-false}
+use borrow.Author.Tests.{lt-ltb, le-ltb, ltb-true, ltb-false}
 use Rattle.answer.specs.Fields.{fields}
 use Rattle.answer.specs.Requests.{value, Within, valueFault, firstFrom, fieldFault}
 
@@ -17,14 +17,14 @@ module _ (p : ℕ → Bool) where
   first-more i k b e = ap (λ x. cond x i (firstFrom p (i + 1) k)) e
 
   -- where none of k passes, it is past them
-  first-none : (k i : ℕ) → ((j : ℕ) → i ≤ j → j < i + k → p j ≡ false) → firstFrom p i k ≡ i + k
+  pub first-none : (k i : ℕ) → ((j : ℕ) → i ≤ j → j < i + k → p j ≡ false) → firstFrom p i k ≡ i + k
   first-none zero i h = omega arith
   first-none (suc k) i h =
       let z : i + 1 + k ≡ i + suc k = omega arith in
       first-more i k false (h i (omega arith) (omega arith)) ∙ first-none k (i + 1) (λ j l r. h j (omega arith) (omega arith)) ∙ z
 
   -- it is no earlier than the first asked, and none before it passes
-  first-least : (k i : ℕ) → (i ≤ firstFrom p i k) × ((j : ℕ) → i ≤ j → j < firstFrom p i k → p j ≡ false)
+  pub first-least : (k i : ℕ) → (i ≤ firstFrom p i k) × ((j : ℕ) → i ≤ j → j < firstFrom p i k → p j ≡ false)
   first-least zero i = (omega arith, λ j l r. absurd (omega arith))
   first-least (suc k) i = by (p i) refl (first-least k (i + 1))
     where
@@ -41,7 +41,7 @@ module _ (p : ℕ → Bool) where
       )
 
   -- where it is one of k, it passes
-  first-passes : (k i : ℕ) → firstFrom p i k < i + k → p (firstFrom p i k) ≡ true
+  pub first-passes : (k i : ℕ) → firstFrom p i k < i + k → p (firstFrom p i k) ≡ true
   first-passes zero i l = absurd (omega arith)
   first-passes (suc k) i l = by (p i) refl (first-passes k (i + 1))
     where
@@ -50,7 +50,6 @@ module _ (p : ℕ → Bool) where
       by false e h = ap p (first-more i k false e) ∙ h (omega (arith, first-more i k false e))
 
   -- one step of a search that stands at i, of n in all
-
   pub search-more : (i n : ℕ) (b : Bool) → i < n → p i ≡ b → firstFrom p i (n - i) ≡ cond b i (firstFrom p (i + 1) (n - (i + 1)))
   search-more i n b l e = let z : n - i ≡ suc (n - (i + 1)) = omega arith in ap (firstFrom p i) z ∙ first-more i (n - (i + 1)) b e
 
@@ -79,3 +78,22 @@ module _ (maximum : ℕ → ℕ) (q : List ℕ) where
     ltb-true (maximum (fieldFault maximum q)) (value q (fieldFault maximum q)) (first-passes (valueFault maximum q) fields 0 h),
     λ f l. ltb-false (maximum f) (value q f) (first-least (valueFault maximum q) fields 0 .1 f (omega arith) l),
   )
+
+  -- the search for a faulty field stands at field f
+  abbrev pub Searched : ℕ → Type 0
+  Searched f = fieldFault maximum q ≡ firstFrom (valueFault maximum q) f (fields - f)
+
+  pub search-starts : Searched 0
+  unfolding fieldFault
+  search-starts = refl
+
+  pub field-found : (f m : ℕ) → f < fields → m ≡ maximum f → m < value q f → Searched f → f ≡ fieldFault maximum q
+  field-found f m l e h s =
+      sym (s ∙ search-more (valueFault maximum q) f fields true l (lt-ltb (maximum f) (value q f) (omega arith)))
+
+  pub field-passed : (f m : ℕ) → f < fields → m ≡ maximum f → value q f ≤ m → Searched f → Searched (f + 1)
+  field-passed f m l e h s =
+      s ∙ search-more (valueFault maximum q) f fields false l (le-ltb (maximum f) (value q f) (omega arith))
+
+  pub no-field : (f : ℕ) → f ≡ fields → Searched f → fields ≡ fieldFault maximum q
+  no-field f e s = sym (s ∙ search-ends (valueFault maximum q) f fields (omega arith) ∙ e)

@@ -1,11 +1,12 @@
 -- Laws of cards stored one after another in a list, as far as it reaches.
 -- Assumes nothing.
-use mathlib.Core.Path.{_≡_, ap, _∙_}
+use mathlib.Core.Path.{_≡_, sym, ap, _∙_}
 use mathlib.Core.List.{List, [], _∷_, _++_}
-use Prim.Native.Nat.{ℕ, zero, suc, _+_, _-_, _≤_}
+use Prim.Native.Nat.{ℕ, zero, suc, _+_, _-_, _≤_, _<_}
 use native.Mathlib.Omega.{arith}
-use lib.ListN.{length, set, drop, length-replicate}
-use lib.Seq.{sets, sets-eq}
+use native.Mathlib.Numerals.{add-one}
+use lib.ListN.{length, getD, set, take, drop, length-replicate}
+use lib.Seq.{sets, sets-eq, take-suc, length-take-le}
 use Rattle.answer.specs.Answers.{zeros, padded}
 
 -- some cards, and then others
@@ -27,3 +28,11 @@ stored-padded cs n l =
     sets-eq cs (zeros n) 0 (omega (arith, length-replicate {A = ℕ} n 0))
     ∙ ap (λ k. cs ++ drop k (zeros n)) z
     ∙ ap (λ ds. cs ++ ds) (drop-zeros (length cs) n)
+
+-- the cards before the i-th stand, and it is stored
+pub stored-more : (cs list : List ℕ) (i : ℕ) → i < length cs → set (sets list 0 (take i cs)) i (getD cs i 0) ≡ sets list 0 (take (i + 1) cs)
+stored-more cs list i h =
+    let n : i ≡ 0 + length (take i cs) = omega (arith, length-take-le i cs (omega arith)) in
+    ap (λ k. set (sets list 0 (take i cs)) k (getD cs i 0)) n
+    ∙ sym (stored-join (take i cs) (getD cs i 0 ∷ []) list 0)
+    ∙ ap (sets list 0) (sym (take-suc cs i 0 h) ∙ ap (λ k. take k cs) (sym (add-one i)))

@@ -7,10 +7,10 @@ use mathlib.Core.List.{List}
 use Prim.Native.Nat.{ℕ, suc, _+_, _-_, _≤_, _<_}
 use native.Mathlib.Omega.{arith}
 use lib.ListN.{length}
+use Rattle.answer.proofs.Tests.{lt-or-ge}
 use Rattle.table.specs.Layout.{count, kind}
 use Rattle.table.specs.Reading.{Accepted}
 use Rattle.table.specs.WellFormed.{WellFormed}
-use Rattle.table.proofs.Tests.{lt-or-ge}
 use Rattle.table.proofs.AcceptedIsWellFormed.{well-formed}
 use Rattle.ruling.specs.Meaning.{cardsFrom, cards}
 use Rattle.ruling.proofs.Cards.{matches-group, cards-more, cards-few}

@@ -8,13 +8,13 @@ use mathlib.Core.List.{List, [], _∷_}
 use Prim.Native.Nat.{ℕ, zero, suc, _+_, _-_, _≤_, _<_}
 use native.Mathlib.Omega.{arith}
 use borrow.Author.Tests.{le-leb, lt-leb}
+use Rattle.answer.proofs.Tests.{lt-or-ge}
 use Rattle.combining.specs.Ways.{notApplicable, way}
 use Rattle.combining.proofs.Fold.{not-applicable-first, way-none}
 use Rattle.table.specs.Layout.{count, kind}
 use Rattle.table.specs.Tree.{endOf, isRule}
 use Rattle.table.specs.Reading.{Accepted}
 use Rattle.table.specs.WellFormed.{WellFormed}
-use Rattle.table.proofs.Tests.{lt-or-ge}
 use Rattle.table.proofs.AcceptedIsWellFormed.{well-formed}
 use Rattle.ruling.specs.Forest.{Forest, empty, node, forestWithin, under}
 use Rattle.ruling.specs.Targets.{targetHolds, applies}

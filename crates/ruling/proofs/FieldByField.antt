@@ -1,16 +1,14 @@
--- Laws of a value in a range, of a target that is tested field by field, and of a request's fields, one for each way through the code.
+-- Laws of a value in a range and of a target that is tested field by field, one for each way through the code.
 -- Assumes nothing.
-use mathlib.Core.Path.{_≡_, refl, sym, ap, _∙_}
+use mathlib.Core.Path.{_≡_, sym, ap, _∙_}
 use mathlib.Core.Bool.{Bool, true, false, _&&_}
 use mathlib.Core.List.{List}
-use Prim.Native.Nat.{ℕ, _+_, _-_, _≤_, _<_}
-use native.Mathlib.Omega.{arith}
-use borrow.Author.Tests.{le-leb, lt-leb, lt-ltb, le-ltb}
+use Prim.Native.Nat.{ℕ, _+_, _≤_, _<_}
+use borrow.Author.Tests.{le-leb, lt-leb}
 use lib.Dec.{leb}
 use Rattle.answer.specs.Fields.{fields}
-use Rattle.answer.specs.Requests.{value, valueFault, firstFrom, fieldFault}
-use Rattle.answer.proofs.FirstField.{search-more, search-ends}
-use Rattle.table.specs.Layout.{maximum, low, high}
+use Rattle.answer.specs.Requests.{value}
+use Rattle.table.specs.Layout.{low, high}
 use Rattle.ruling.specs.Targets.{everyBelow, inRange, fieldHolds, targetHolds}
 use Rattle.ruling.proofs.Tests.{every-more, every-false}
 
@@ -40,23 +38,3 @@ module _ (t q : List ℕ) (i : ℕ) where
   pub target-all : (f : ℕ) → f ≡ fields → everyBelow f (fieldHolds t q i) ≡ true → true ≡ targetHolds t q i
   unfolding targetHolds
   target-all f e r = sym r ∙ ap (λ n. everyBelow n (fieldHolds t q i)) e
-
-module _ (t q : List ℕ) where
-  -- the search for a faulty field stands at field f
-  abbrev pub Searched : ℕ → Type 0
-  Searched f = fieldFault (maximum t) q ≡ firstFrom (valueFault (maximum t) q) f (fields - f)
-
-  pub search-starts : Searched 0
-  unfolding fieldFault
-  search-starts = refl
-
-  pub field-found : (f m : ℕ) → f < fields → m ≡ maximum t f → m < value q f → Searched f → f ≡ fieldFault (maximum t) q
-  field-found f m l e h s =
-      sym (s ∙ search-more (valueFault (maximum t) q) f fields true l (lt-ltb (maximum t f) (value q f) (omega arith)))
-
-  pub field-passed : (f m : ℕ) → f < fields → m ≡ maximum t f → value q f ≤ m → Searched f → Searched (f + 1)
-  field-passed f m l e h s =
-      s ∙ search-more (valueFault (maximum t) q) f fields false l (le-ltb (maximum t f) (value q f) (omega arith))
-
-  pub no-field : (f : ℕ) → f ≡ fields → Searched f → fields ≡ fieldFault (maximum t) q
-  no-field f e s = sym (s ∙ search-ends (valueFault (maximum t) q) f fields (omega arith) ∙ e)

@@ -5,10 +5,10 @@ use mathlib.Core.Logic.{⊎-elim}
 use mathlib.Core.List.{List, [], _∷_}
 use Prim.Native.Nat.{ℕ, zero, suc, _+_, _≤_, _<_}
 use native.Mathlib.Omega.{arith}
+use Rattle.answer.proofs.Tests.{lt-or-ge}
 use Rattle.table.specs.Layout.{count}
 use Rattle.table.specs.Tree.{endOf}
 use Rattle.table.specs.WellFormed.{WellFormed}
-use Rattle.table.proofs.Tests.{lt-or-ge}
 use Rattle.ruling.specs.Forest.{Forest, empty, node, forestWithin}
 use Rattle.ruling.specs.Walk.{Whole}
 use Rattle.ruling.proofs.Forest.{within-none, within-more, whole-under, whole-after}

@@ -1,6 +1,6 @@
 -- What ruling by groups answers and leaves in the list: one law for each outcome, and one for each way through the code.
 -- Assumes nothing.
-use mathlib.Core.Path.{_≡_, sym, ap, _∙_}
+use mathlib.Core.Path.{_≡_, refl, sym, ap, _∙_}
 use mathlib.Core.Bool.{cond}
 use mathlib.Core.List.{List}
 use Prim.Native.Nat.{ℕ, _-_, _≤_, _<_}
@@ -11,9 +11,10 @@ use lib.Seq.{sets}
 use Rattle.answer.specs.Fields.{fields}
 use Rattle.answer.specs.Answers.{refused, ruled, zeros, padded}
 use Rattle.answer.specs.Requests.{fieldFault}
-use Rattle.answer.specs.Rulings.{answered}
+use Rattle.answer.specs.Rulings.{answered, listed}
 use Rattle.answer.specs.declared.Answer.{Answer}
-use Rattle.answer.proofs.Answering.{answered-field, answered-short, answered-ruled, listed-refused, listed-ruled}
+use Rattle.answer.proofs.Settling.{refuses, request-over, list-short, list-long}
+use Rattle.answer.proofs.Stored.{stored-padded}
 use Rattle.table.specs.Layout.{count, maximum}
 use Rattle.table.specs.Reading.{reading}
 use Rattle.table.specs.WellFormed.{WellFormed}
@@ -23,7 +24,6 @@ use Rattle.ruling.specs.Targets.{applies}
 use Rattle.ruling.specs.Meaning.{decision, cardsFrom}
 use Rattle.ruling.specs.Ruling.{groups, ruling, ruledList}
 use Rattle.ruling.specs.Walk.{cardsBetween, Gathered}
-use Rattle.answer.proofs.Stored.{stored-padded}
 
 module _ (t : List ℕ) (a : Answer) (e : a ≡ reading t) (z : a .number ≡ 0) where
   -- what a reading with number 0 tells
@@ -38,50 +38,42 @@ module _ (t : List ℕ) (a : Answer) (e : a ≡ reading t) (z : a .number ≡ 0)
   read-count = ap (λ x. x .count) (e ∙ accepted-reading t (number-accepted t read-zero))
 
 module _ (t q : List ℕ) (n : ℕ) where
+  -- the list shows the groups' cards
+  pub shows : listed (ruling t q n) (groups t q .cards) n ≡ ruledList t q n
+  unfolding ruledList
+  shows = refl
+
   -- an answer and a list that are the defined ones
   abbrev pub Settled : Answer → List ℕ → Type 0
   Settled a list = (a ≡ ruling t q n) × (list ≡ ruledList t q n)
-
-  -- a refusal, with zeros in the list
-  refuses : (a : Answer) (list : List ℕ) → a ≡ ruling t q n → (a .number ≡ 0 → ⊥) → list ≡ zeros n → Settled a list
-  unfolding ruledList
-  refuses a list e h z =
-      (e, z ∙ sym (listed-refused (ruling t q n) (groups t q .cards) n (λ w. h (ap (λ x. x .number) e ∙ w))))
 
   -- refusals 1 to 8
   pub unread : (a : Answer) (list : List ℕ) → a ≡ reading t → (a .number ≡ 0 → ⊥) → list ≡ zeros n → Settled a list
   unfolding ruling
   unread a list e h z =
-      refuses a list
+      refuses (ruling t q n) (ruledList t q n) (groups t q .cards) n shows a list
       (e ∙ sym (ap (λ b. cond b (answered (maximum t) q (groups t q) n) (reading t)) (ne-eqb (reading t .number) 0 (λ w. h (ap (λ x. x .number) e ∙ w)))))
       h z
 
   module _ (r : reading t .number ≡ 0) where
-    was-read : answered (maximum t) q (groups t q) n ≡ ruling t q n
+    pub was-read : answered (maximum t) q (groups t q) n ≡ ruling t q n
     unfolding ruling
     was-read = sym (ap (λ b. cond b (answered (maximum t) q (groups t q) n) (reading t)) (eq-eqb (reading t .number) 0 r))
 
     -- 9
     pub over : (a : Answer) (list : List ℕ) (f : ℕ) → f ≡ fieldFault (maximum t) q → f < fields → a ≡ refused 9 f → list ≡ zeros n →
         Settled a list
-    over a list f ef l e z =
-        refuses a list (e ∙ answered-field (maximum t) q (groups t q) n f ef l ∙ was-read)
-        (λ w. omega (arith, ap (λ x. x .number) e)) z
+    over = request-over (maximum t) q (groups t q) n (ruling t q n) (ruledList t q n) was-read shows
 
     module _ (w : fields ≤ fieldFault (maximum t) q) where
       -- 10
       pub short-list : (a : Answer) (list : List ℕ) → n < length (groups t q .cards) → a ≡ refused 10 0 → list ≡ zeros n → Settled a list
-      short-list a list l e z =
-          refuses a list (e ∙ answered-short (maximum t) q (groups t q) n w l ∙ was-read)
-          (λ u. omega (arith, ap (λ x. x .number) e)) z
+      short-list = list-short (maximum t) q (groups t q) n (ruling t q n) (ruledList t q n) was-read shows w
 
       -- a ruling
       pub long-list : (a : Answer) (list : List ℕ) (d k : ℕ) → d ≡ groups t q .decision → k ≡ length (groups t q .cards) → k ≤ n →
           a ≡ ruled d k → list ≡ padded (groups t q .cards) n → Settled a list
-      unfolding ruledList
-      long-list a list d k ed ek l e z =
-          let s = e ∙ answered-ruled (maximum t) q (groups t q) n w d k ed ek l ∙ was-read in
-          (s, z ∙ sym (listed-ruled (ruling t q n) (groups t q .cards) n (ap (λ x. x .number) (sym s ∙ e))))
+      long-list = list-long (maximum t) q (groups t q) n (ruling t q n) (ruledList t q n) was-read shows w
 
     -- after the walk over all nodes, which end at the count
     module _ (f : ℕ) (ef : f ≡ fieldFault (maximum t) q) (w : fields ≤ f) (end : ℕ) (ee : end ≡ count t) where

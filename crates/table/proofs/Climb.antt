@@ -9,10 +9,10 @@ use native.Mathlib.Nat.{eq-zero-or-pos}
 use native.Mathlib.Omega.{arith}
 use borrow.Author.Tests.{lt-ltb, le-ltb}
 use lib.ListN.{getD}
+use Rattle.answer.proofs.Tests.{lt-or-ge}
 use Rattle.table.specs.Layout.{span}
 use Rattle.table.specs.Tree.{endOf, latest, parent, level, Above, itself}
 use Rattle.table.specs.Open.{deepest}
-use Rattle.table.proofs.Tests.{lt-or-ge}
 use Rattle.table.proofs.Tree.{latest-here, latest-next, latest-climb, parent-below, level-root, level-child, above-parent, above-earlier}
 
 module _ (ends : List ℕ) (i : ℕ) where

@@ -9,9 +9,9 @@ use native.Mathlib.Nat.{eq-or-lt-of-le, eq-zero-or-pos}
 use native.Mathlib.Omega.{arith}
 use borrow.Author.Tests.{lt-ltb, le-ltb, eq-eqb, ne-eqb}
 use lib.Dec.{eqb}
+use Rattle.answer.proofs.Tests.{lt-or-ge}
 use Rattle.table.specs.Layout.{span}
 use Rattle.table.specs.Tree.{endOf, latest, parent, levelWithin, level, Above, itself, further}
-use Rattle.table.proofs.Tests.{lt-or-ge}
 
 module _ (t : List ℕ) where
   pub latest-here : (i n : ℕ) → i < endOf t n → latest t i (suc n) ≡ n
