@@ -1,0 +1,111 @@
+-- Diagrams and answers of document 01 computed from the definitions: an empty root's diagram, T's, requests looked up in it, unsound slices.
+-- Assumes nothing.
+use mathlib.Core.Path.{_≡_, refl}
+use mathlib.Core.Bool.{true}
+use mathlib.Core.List.{List, [], _∷_}
+use Prim.Native.Nat.{ℕ, _+_, _*_}
+use lib.ListN.{getD, take, set}
+use Rattle.answer.specs.Answers.{refused, ruled}
+use Rattle.answer.specs.Requests.{value, fieldFault}
+use Rattle.answer.specs.Rulings.{Ruling, answered, listed}
+use Rattle.answer.specs.declared.Answer.{Answer}
+use Rattle.diagram.specs.Entries.{terminal, node}
+use Rattle.diagram.specs.Walk.{enter, extend, below, walk, diagram}
+use Rattle.diagram.specs.LookUp.{edge, lookUp}
+use Rattle.diagram.specs.Decided.{yes?, le?, lt?, eq?, iff?, not?, and?, or?, when?, one-more?, each?}
+use Rattle.diagram.specs.SoundIsDecided.{scan?, start?, entry-before?, terminal-holds?, sound-terminal?, sound-node?, sound-entry?, sound?}
+use Rattle.diagram.specs.LookedUp.{lookedUp, lookedUpList}
+
+abbrev gives : ℕ → List ℕ → Ruling
+gives decision cards = record { decision = decision; cards = cards }
+
+-- "none", with no card
+abbrev none : Ruling
+none = gives 0 []
+
+-- "An empty root: none everywhere; 20 places, root at 16."
+pub empty-root :
+    diagram (2 ∷ 1 ∷ 1 ∷ []) (λ q. none)
+    ≡ 20 ∷ 16 ∷ 2 ∷ 1 ∷ 1
+    ∷ 0 ∷ 0 ∷ 0
+    ∷ 3 ∷ 1 ∷ 1 ∷ 5
+    ∷ 2 ∷ 1 ∷ 1 ∷ 8
+    ∷ 1 ∷ 1 ∷ 2 ∷ 12
+    ∷ []
+unfolding diagram walk enter extend below terminal node
+empty-root = refl
+
+-- the rulings of T, in rising order of the requests
+abbrev listedT : List Ruling
+listedT =
+    gives 1 (10 ∷ []) ∷ none
+    ∷ gives 1 (10 ∷ []) ∷ none
+    ∷ gives 1 (10 ∷ []) ∷ none
+    ∷ gives 1 (10 ∷ []) ∷ gives 1 (30 ∷ [])
+    ∷ gives 2 (10 ∷ 20 ∷ []) ∷ none
+    ∷ gives 1 (10 ∷ []) ∷ none
+    ∷ []
+
+-- as a function of the request
+abbrev pub rulingsT : List ℕ → Ruling
+rulingsT q = getD listedT (4 * value q 0 + 2 * value q 1 + value q 2) none
+
+-- T's diagram, an entry to a line
+abbrev pub diagramT : List ℕ
+diagramT =
+    63 ∷ 55 ∷ 2 ∷ 1 ∷ 1
+    ∷ 0 ∷ 1 ∷ 1 ∷ 10
+    ∷ 0 ∷ 0 ∷ 0
+    ∷ 3 ∷ 2 ∷ 0 ∷ 5 ∷ 1 ∷ 9
+    ∷ 2 ∷ 1 ∷ 1 ∷ 12
+    ∷ 0 ∷ 1 ∷ 1 ∷ 30
+    ∷ 3 ∷ 2 ∷ 0 ∷ 5 ∷ 1 ∷ 22
+    ∷ 2 ∷ 2 ∷ 0 ∷ 12 ∷ 1 ∷ 26
+    ∷ 0 ∷ 2 ∷ 2 ∷ 10 ∷ 20
+    ∷ 3 ∷ 2 ∷ 0 ∷ 38 ∷ 1 ∷ 9
+    ∷ 2 ∷ 2 ∷ 0 ∷ 43 ∷ 1 ∷ 12
+    ∷ 1 ∷ 3 ∷ 0 ∷ 18 ∷ 1 ∷ 32 ∷ 2 ∷ 49
+    ∷ []
+
+-- "Its diagram has 63 places, root at 55."
+pub walked-T : diagram (2 ∷ 1 ∷ 1 ∷ []) rulingsT ≡ diagramT
+unfolding diagram walk enter extend below terminal node
+walked-T = refl
+
+-- it is sound
+pub sound-T : yes? (sound? 3 diagramT) ≡ true
+unfolding le? lt? eq? iff? not? and? or? when? one-more? each? scan? start? entry-before? terminal-holds? sound-terminal? sound-node? sound-entry? sound?
+sound-T = refl
+
+-- Slice d gives request q this answer, where the list has n places, and the list then holds this.
+pub record Answers (d q : List ℕ) (n : ℕ) (a : Answer) (list : List ℕ) : Type 0 where
+  pub answer : lookedUp d q n ≡ a
+  pub holds : lookedUpList d q n ≡ list
+
+-- requests asked of it, and of two slices that are not sound
+pub record Asked : Type 0 where
+  -- "T, (0,0,0): may, 10."
+  pub t-0-0-0 : Answers diagramT (0 ∷ 0 ∷ 0 ∷ []) 3 (ruled 1 1) (10 ∷ 0 ∷ 0 ∷ [])
+  -- "T, (2,0,0), list of 3: not; 10, 20, 0."
+  pub t-2-0-0 : Answers diagramT (2 ∷ 0 ∷ 0 ∷ []) 3 (ruled 2 2) (10 ∷ 20 ∷ 0 ∷ [])
+  -- "List of 1: refusal 10, list 0."
+  pub t-list-of-1 : Answers diagramT (2 ∷ 0 ∷ 0 ∷ []) 1 (refused 10 0) (0 ∷ [])
+  -- "T, (3,0,0): refusal 9, field 0."
+  pub t-3-0-0 : Answers diagramT (3 ∷ 0 ∷ 0 ∷ []) 3 (refused 9 0) (0 ∷ 0 ∷ 0 ∷ [])
+  -- 12: cut by one place
+  pub cut : Answers (take 62 diagramT) (0 ∷ 0 ∷ 0 ∷ []) 3 (refused 12 0) (0 ∷ 0 ∷ 0 ∷ [])
+  -- 12: the root one place on
+  pub root-on : Answers (set diagramT 1 56) (0 ∷ 0 ∷ 0 ∷ []) 3 (refused 12 0) (0 ∷ 0 ∷ 0 ∷ [])
+
+-- each is computed
+pub asked : Asked
+unfolding le? lt? eq? iff? not? and? or? when? one-more? each? scan? start? entry-before? terminal-holds? sound-terminal? sound-node? sound-entry? sound?
+    edge lookUp fieldFault answered listed lookedUp lookedUpList
+asked = record {
+  t-0-0-0 = record { answer = refl; holds = refl };
+  t-2-0-0 = record { answer = refl; holds = refl };
+  t-list-of-1 = record { answer = refl; holds = refl };
+  t-3-0-0 = record { answer = refl; holds = refl };
+  cut = record { answer = refl; holds = refl };
+  root-on = record { answer = refl; holds = refl };
+}

@@ -1,0 +1,24 @@
+-- What proofs about diagrams use, and the theorems.
+pub mod Told
+pub mod FirstEdge
+pub mod ValueTakesARealEdge
+pub mod StandsIn
+pub mod EntryPlaces
+pub mod EntriesGrow
+pub mod EdgesRun
+pub mod WalkRules
+pub mod DiagramHeader
+pub mod LookUpGivesTheRuling
+pub mod DiagramGoesByRulingsWithin
+pub mod EqualExactlyWhenAlike
+pub mod WalkingAgainAddsNothing
+pub mod GoodEntries
+pub mod GoodEntriesAreSound
+pub mod DiagramIsSound
+pub mod WithinAsWalked
+pub mod Descent
+pub mod Outcome
+pub mod EveryRequestReachesATerminal
+pub mod FirstRefusalOrLookUp
+pub mod WalkedDiagramAnswers
+pub mod Examples

@@ -1,0 +1,9 @@
+pub mod Layout
+pub mod Entries
+pub mod Walk
+pub mod LookUp
+pub mod Sound
+pub mod Decided
+pub mod Starts
+pub mod SoundIsDecided
+pub mod LookedUp
