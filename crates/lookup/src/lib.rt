@@ -1,0 +1,104 @@
+// Ruling by a diagram from anyone: refusals 12, 9 and 10 in order, or the decision and the cards.
+use answer::Answer;
+use answer::FIELDS;
+use answer::Request;
+use answer::clear;
+use soundness::is_sound;
+ghost use mathlib.Core.Path.{_≡_};
+ghost use Prim.Native.Nat.{_+_, _*_, _-_, _≤_, _<_};
+ghost use lib.ListN.{length};
+ghost use lib.Seq.{sets};
+ghost use Rattle.answer.specs.Fields.{fields};
+ghost use Rattle.answer.specs.Requests.{Within, fieldFault};
+ghost use Rattle.diagram.specs.Layout.{header, mostPlaces, maximum, levelAt, edgesAt};
+ghost use Rattle.diagram.specs.LookUp.{child};
+ghost use Rattle.diagram.specs.Sound.{SoundNode, Sound};
+ghost use Rattle.diagram.specs.LookedUp.{lookedUp, lookedUpList, Landed};
+
+// The first field whose value is over its maximum, or FIELDS.
+fn field_fault(diagram: &[u16], values: &[u16; FIELDS]) -> usize
+    requires { ⌜ header fields ≤ length (now diagram) ⌝ }
+    ensures { λ r. ⌜ r ≡ fieldFault (maximum (now (diagram .entry))) (now (values .entry)) ⌝ }
+{
+    let mut field = 0;
+    while field < FIELDS {
+        if diagram[2 + field] < values[field] {
+            return field;
+        }
+        field += 1;
+    }
+    FIELDS
+}
+
+// The child for a value of the sound node at a place. Last values rise, so the edge is found by halving.
+fn child_of(diagram: &[u16], place: usize, value: u16) -> usize
+    requires { ⌜ (place < mostPlaces) × (place + 2 + 2 * edgesAt (now diagram) place ≤ length (now diagram)) ⌝ }
+    requires { ⌜ SoundNode fields (now diagram) place ⌝ }
+    requires { ⌜ value ≤ maximum (now diagram) (levelAt (now diagram) place - 1) ⌝ }
+    ensures { λ r. ⌜ (r ≡ child (now (diagram .entry)) place value) × (r < 65536) ⌝ }
+{
+    let mut low: usize = 0;
+    let mut high: usize = diagram[place + 1] as usize - 1;
+    while low < high {
+        let middle = low + (high - low) / 2;
+        if diagram[place + 2 + 2 * middle] < value {
+            low = middle + 1;
+        } else {
+            high = middle;
+        }
+    }
+    diagram[place + 3 + 2 * low] as usize
+}
+
+// The place of the terminal that the values reach from the root of a sound diagram.
+fn descend(diagram: &[u16], values: [u16; FIELDS]) -> usize
+    requires { ⌜ Sound fields (now diagram) ⌝ }
+    requires { ⌜ Within (maximum (now diagram)) values ⌝ }
+    ensures { λ r. ⌜ Landed (now (diagram .entry)) values r ⌝ }
+{
+    let mut place = diagram[1] as usize;
+    let mut field = 0;
+    while field < FIELDS {
+        place = child_of(diagram, place, values[field]);
+        field += 1;
+    }
+    place
+}
+
+// Cards to the start of a list that is long enough.
+fn store(cards: &[u16], list: &mut [u16])
+    requires { ⌜ length (now cards) ≤ length (now list) ⌝ }
+    ensures { λ _. ⌜ now (list .exit) ≡ sets (now (list .entry)) 0 (now (cards .entry)) ⌝ }
+{
+    let count = cards.len();
+    let mut i = 0;
+    while i < count {
+        list[i] = cards[i];
+        i += 1;
+    }
+}
+
+// Rules on a request by a diagram: the decision, and in the list the terminal's cards, with zeros after them.
+pub fn look_up(diagram: &[u16], request: Request, cards: &mut [u16]) -> Answer
+    ensures { λ r. ⌜ r ≡ lookedUp (now (diagram .entry)) (request .values) (length (now (cards .entry))) ⌝ }
+    ensures { λ _. ⌜ now (cards .exit) ≡ lookedUpList (now (diagram .entry)) (request .values) (length (now (cards .entry))) ⌝ }
+{
+    clear(cards);
+    if !is_sound(diagram) {
+        return Answer::refused(12, 0);
+    }
+    let values = request.values;
+    let field = field_fault(diagram, &values);
+    if field < FIELDS {
+        return Answer::refused(9, field);
+    }
+    let place = descend(diagram, values);
+    let count = diagram[place + 2] as usize;
+    if cards.len() < count {
+        return Answer::refused(10, 0);
+    }
+    let from = place + 3;
+    let to = from + count;
+    store(&diagram[from..to], cards);
+    Answer::ruled(diagram[place + 1] as u8, count)
+}
