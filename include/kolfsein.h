@@ -1,12 +1,14 @@
 /*
- * Kolfsein, a verified policy engine: reading a table of rules, and ruling on a request by its groups.
+ * Kolfsein, a verified policy engine: reading a table of rules, ruling on a request by its groups, and ruling by a
+ * decision diagram.
  * For C99 and C++. Link libkolfsein.a, which itself needs only C's memset.
  *
- * Every call takes any bytes and any values and ends. It allocates nothing, keeps nothing between calls, and reads
- * and writes only what it is lent. The caller sees to this:
- * - a pointer is valid for its length: table_len bytes to read, cards_len numbers to read and write;
+ * Every call takes any bytes, any numbers and any values and ends. It allocates nothing, keeps nothing between calls,
+ * and reads and writes only what it is lent. The caller sees to this:
+ * - a pointer is valid for its length: table_len bytes to read, diagram_len numbers to read, cards_len numbers to read
+ *   and write;
  * - where a length is 0 nothing is read or written there, and the pointer may be null;
- * - the list of cards does not overlap the table.
+ * - the list of cards overlaps neither the table nor the diagram.
  */
 #ifndef KOLFSEIN_H
 #define KOLFSEIN_H
@@ -26,25 +28,29 @@ enum {
     KOLFSEIN_INDETERMINATE = 3
 };
 
-/* kolfsein_answer.number: 0, or what is refused. Nodes are numbered from 0, the root. */
+/* kolfsein_answer.number: 0, or what is refused. A table's nodes are numbered from 0, the root. */
 enum {
-    KOLFSEIN_OK = 0,             /* nothing is refused; place 0 */
-    KOLFSEIN_LENGTH = 1,         /* under 8 bytes, or the length isn't bytes 0-1 plus 2; place 0 */
-    KOLFSEIN_VERSION = 2,        /* the version isn't 1; place 0 */
-    KOLFSEIN_NODE_COUNT = 3,     /* 0 or over 128 nodes, or the length isn't 8 + 11 x nodes; place 0 */
-    KOLFSEIN_KIND = 4,           /* a kind over 5; place: the node */
-    KOLFSEIN_SPAN = 5,           /* a span of 0, of a rule not 1, of the root not the number of nodes,
-                                    or past its parent's end; place: the node */
-    KOLFSEIN_LEVEL = 6,          /* level 9 or deeper; place: the node */
-    KOLFSEIN_RANGE = 7,          /* a low over its high, or a high over the maximum; place: the node */
-    KOLFSEIN_CARD = 8,           /* a rule with card 0, or a group with another card; place: the node */
-    KOLFSEIN_VALUE = 9,          /* a value over its field's maximum; place: the first such field,
-                                    0 subject, 1 resource, 2 action */
-    KOLFSEIN_LIST_TOO_SHORT = 10 /* the list is shorter than the cards; place 0 */
+    KOLFSEIN_OK = 0,              /* nothing is refused; place 0 */
+    KOLFSEIN_LENGTH = 1,          /* under 8 bytes, or the length isn't bytes 0-1 plus 2; place 0 */
+    KOLFSEIN_VERSION = 2,         /* the version isn't 1; place 0 */
+    KOLFSEIN_NODE_COUNT = 3,      /* 0 or over 128 nodes, or the length isn't 8 + 11 x nodes; place 0 */
+    KOLFSEIN_KIND = 4,            /* a kind over 5; place: the node */
+    KOLFSEIN_SPAN = 5,            /* a span of 0, of a rule not 1, of the root not the number of nodes,
+                                     or past its parent's end; place: the node */
+    KOLFSEIN_LEVEL = 6,           /* level 9 or deeper; place: the node */
+    KOLFSEIN_RANGE = 7,           /* a low over its high, or a high over the maximum; place: the node */
+    KOLFSEIN_CARD = 8,            /* a rule with card 0, or a group with another card; place: the node */
+    KOLFSEIN_VALUE = 9,           /* a value over its field's maximum; place: the first such field,
+                                     0 subject, 1 resource, 2 action */
+    KOLFSEIN_LIST_TOO_SHORT = 10, /* the list is shorter than the cards; place 0 */
+    KOLFSEIN_DIAGRAM = 12         /* the diagram isn't sound; place 0 */
 };
 
 /* No ruling has more cards than this: a list of so many places is never too short. */
 enum { KOLFSEIN_MOST_CARDS = 127 };
+
+/* No sound diagram uses more places than this. */
+enum { KOLFSEIN_MOST_PLACES = 32768 };
 
 /* What a call hands back. In a refusal the decision and the count are 0. */
 typedef struct kolfsein_answer {
@@ -69,6 +75,17 @@ kolfsein_answer kolfsein_read(const uint8_t *table, size_t table_len);
 kolfsein_answer kolfsein_rule(const uint8_t *table, size_t table_len,
                               uint16_t subject, uint16_t resource, uint16_t action,
                               uint16_t *cards, size_t cards_len);
+
+/*
+ * Rules on a request by a diagram: number 0, place 0, the decision, and as count the number of cards, both of the
+ * terminal that the request reaches. The list then holds the terminal's cards, and 0 in every place after them.
+ * Otherwise the first refusal in this order: 12, 9, 10. The list is then all 0.
+ * A diagram may come from anyone: each call sees whether it is sound, in one pass over the places that it uses. What
+ * stands after those makes no difference. A call takes some 35 KB of stack.
+ */
+kolfsein_answer kolfsein_look_up(const uint16_t *diagram, size_t diagram_len,
+                                 uint16_t subject, uint16_t resource, uint16_t action,
+                                 uint16_t *cards, size_t cards_len);
 
 #ifdef __cplusplus
 }

@@ -1,6 +1,7 @@
 /*
- * The library as C calls it: document 01's cases of ruling by groups, every request of table T against its listing,
- * each refusal from 1 to 10, tables cut short, null pointers of length 0, and what stands around a lent list.
+ * The library as C calls it: document 01's cases of ruling by groups, every request of table T against its listing and
+ * by its diagram, each refusal from 1 to 10 and 12, tables and diagrams cut short, null pointers of length 0, and what
+ * stands around a lent list. Changed diagrams are compared with a plain check and look-up, written here by themselves.
  */
 #include <stdint.h>
 #include <stdio.h>
@@ -8,7 +9,9 @@
 
 #include "kolfsein.h"
 
-enum { HEADER = 8, RECORD = 11, NODES = 128, GUARDS = 4, LIST = KOLFSEIN_MOST_CARDS };
+#define COUNT(rows) (sizeof(rows) / sizeof(rows)[0])
+
+enum { HEADER = 8, RECORD = 11, NODES = 128, GUARDS = 4, LIST = KOLFSEIN_MOST_CARDS, LENT = GUARDS + LIST + GUARDS };
 
 /* What a list holds before a call, and what stands around it: no card and no 0. */
 static const uint16_t MARK = 0xA5A5;
@@ -76,32 +79,42 @@ static void reads(int line, const struct table *t, kolfsein_answer should) {
     same(line, "a change of the table", memcmp(lent.bytes, t->bytes, sizeof lent.bytes) != 0, 0);
 }
 
-/*
- * Rules with a list of n places that holds no 0 before: the answer, the cards and the zeros after them, or zeros alone
- * in a refusal; what stands before and after the list, and the table's bytes, stay as they are.
- */
-static void rules(int line, const struct table *t, struct request q, size_t n,
-                  kolfsein_answer should, const uint16_t *cards) {
-    uint16_t lent[GUARDS + LIST + GUARDS];
-    struct table before = *t;
+/* A list before it is lent. */
+static void mark(uint16_t lent[LENT]) {
     size_t i;
-    for (i = 0; i < sizeof lent / sizeof lent[0]; i++) {
+    for (i = 0; i < LENT; i++) {
         lent[i] = MARK;
     }
+}
+
+/*
+ * After a call that was lent n places: the cards and the zeros after them, or zeros alone in a refusal; what stands
+ * before and after the list stays as it is.
+ */
+static void holds(int line, const uint16_t lent[LENT], size_t n, kolfsein_answer should, const uint16_t *cards) {
+    size_t i, around = 0;
+    for (i = 0; i < LENT; i++) {
+        if (i < GUARDS || i - GUARDS >= n) {
+            around += lent[i] != MARK;
+        } else if (i - GUARDS < should.count) {
+            same(line, "a card", lent[i], cards[i - GUARDS]);
+        } else {
+            same(line, "a place after the cards", lent[i], 0);
+        }
+    }
+    same(line, "the number of places changed around the list", around, 0);
+}
+
+/* Rules with a list of n places: the answer and the list; the table's bytes stay as they are. */
+static void rules(int line, const struct table *t, struct request q, size_t n,
+                  kolfsein_answer should, const uint16_t *cards) {
+    uint16_t lent[LENT];
+    struct table before = *t;
+    mark(lent);
     same_answer(line,
                 kolfsein_rule(before.bytes, before.len, q.values[0], q.values[1], q.values[2], lent + GUARDS, n),
                 should);
-    for (i = 0; i < sizeof lent / sizeof lent[0]; i++) {
-        if (i < GUARDS) {
-            same(line, "what stands before the list", lent[i], MARK);
-        } else if (i - GUARDS < should.count) {
-            same(line, "a card", lent[i], cards[i - GUARDS]);
-        } else if (i - GUARDS < n) {
-            same(line, "a place after the cards", lent[i], 0);
-        } else {
-            same(line, "what stands after the list", lent[i], MARK);
-        }
-    }
+    holds(line, lent, n, should, cards);
     same(line, "a change of the table", memcmp(before.bytes, t->bytes, sizeof before.bytes) != 0, 0);
 }
 
@@ -197,7 +210,7 @@ static void listing(void) {
     struct table t = table_t();
     size_t i, n, requests = 0;
     unsigned s, r, a;
-    for (i = 0; i < sizeof LISTING / sizeof LISTING[0]; i++) {
+    for (i = 0; i < COUNT(LISTING); i++) {
         const struct path *p = &LISTING[i];
         for (s = p->low[0]; s <= p->high[0]; s++) {
             for (r = p->low[1]; r <= p->high[1]; r++) {
@@ -255,7 +268,7 @@ static const struct over OVER[] = {
 static void fields(void) {
     struct table t = table_t();
     size_t i;
-    for (i = 0; i < sizeof OVER / sizeof OVER[0]; i++) {
+    for (i = 0; i < COUNT(OVER); i++) {
         const struct over *o = &OVER[i];
         rules(o->line, &t, request(o->values[0], o->values[1], o->values[2]), o->list,
               refused(KOLFSEIN_VALUE, o->field), NULL);
@@ -337,7 +350,434 @@ static void largest(void) {
     refuses(__LINE__, &t, KOLFSEIN_NODE_COUNT, 0);
 }
 
-/* A null pointer where the length is 0: for the table, for the list, for both. */
+/* The diagram of T, by the walk in document 01: each entry once all under it is entered. */
+static const uint16_t DIAGRAM[] = {
+    63, 55, 2, 1, 1,
+    /* 5 */ 0, 1, 1, 10,
+    /* 9 */ 0, 0, 0,
+    /* 12 */ 3, 2, 0, 5, 1, 9,
+    /* 18 */ 2, 1, 1, 12,
+    /* 22 */ 0, 1, 1, 30,
+    /* 26 */ 3, 2, 0, 5, 1, 22,
+    /* 32 */ 2, 2, 0, 12, 1, 26,
+    /* 38 */ 0, 2, 2, 10, 20,
+    /* 43 */ 3, 2, 0, 38, 1, 9,
+    /* 49 */ 2, 2, 0, 43, 1, 12,
+    /* 55 */ 1, 3, 0, 18, 1, 32, 2, 49,
+};
+
+/* What follows it where the entries at 5, 12, 18 and 55 stand a second time, 18 with an edge for each value. */
+static const uint16_t UNSHARED[] = {
+    /* 63 */ 0, 1, 1, 10,
+    /* 67 */ 3, 2, 0, 63, 1, 9,
+    /* 73 */ 2, 2, 0, 67, 1, 67,
+    /* 79 */ 1, 3, 0, 73, 1, 32, 2, 49,
+};
+
+/* The diagram of an empty root with T's maxima. */
+static const uint16_t EMPTY[] = {
+    20, 16, 2, 1, 1,
+    /* 5 */ 0, 0, 0,
+    /* 8 */ 3, 1, 1, 5,
+    /* 12 */ 2, 1, 1, 8,
+    /* 16 */ 1, 1, 2, 12,
+};
+
+/* Looks up with a list of n places: the answer and the list; the diagram's numbers stay as they are. */
+static void looks_up(int line, const uint16_t *diagram, size_t len, struct request q, size_t n,
+                     kolfsein_answer should, const uint16_t *cards) {
+    static uint16_t before[KOLFSEIN_MOST_PLACES + 1];
+    uint16_t lent[LENT];
+    memcpy(before, diagram, len * sizeof *diagram);
+    mark(lent);
+    same_answer(line, kolfsein_look_up(diagram, len, q.values[0], q.values[1], q.values[2], lent + GUARDS, n), should);
+    holds(line, lent, n, should, cards);
+    same(line, "a change of the diagram", memcmp(before, diagram, len * sizeof *diagram) != 0, 0);
+}
+
+/* A diagram that is refused whatever is asked: before a value over its maximum, and before a list too short. */
+static void refuses_diagram(int line, const uint16_t *diagram, size_t len) {
+    looks_up(line, diagram, len, request(0, 0, 0), 2, refused(KOLFSEIN_DIAGRAM, 0), NULL);
+    looks_up(line, diagram, len, request(2, 0, 0), 1, refused(KOLFSEIN_DIAGRAM, 0), NULL);
+    looks_up(line, diagram, len, request(256, 256, 256), 0, refused(KOLFSEIN_DIAGRAM, 0), NULL);
+}
+
+/* Values that are asked of each field: all within T's maxima, one more, and some that are no byte. */
+static const uint16_t VALUES[] = {0, 1, 2, 3, 256, 65535};
+
+/* Every request of those values, with lists of 0 to 4 places: a diagram rules as a table's groups do. */
+static void rules_alike(int line, const struct table *t, const uint16_t *diagram, size_t len) {
+    size_t s, r, a, n, f;
+    for (s = 0; s < COUNT(VALUES); s++) {
+        for (r = 0; r < COUNT(VALUES); r++) {
+            for (a = 0; a < COUNT(VALUES); a++) {
+                for (n = 0; n <= 4; n++) {
+                    struct request q = request(VALUES[s], VALUES[r], VALUES[a]);
+                    uint16_t cards[] = {MARK, MARK, MARK, MARK};
+                    kolfsein_answer should =
+                        kolfsein_rule(t->bytes, t->len, q.values[0], q.values[1], q.values[2], cards, n);
+                    for (f = 0; f < 3; f++) {
+                        if (q.values[f] > t->bytes[3 + f]) {
+                            should = refused(KOLFSEIN_VALUE, f);
+                            break;
+                        }
+                    }
+                    looks_up(line, diagram, len, q, n, should, cards);
+                }
+            }
+        }
+    }
+}
+
+enum { PLACES = 87 };
+
+/* T's diagram where these numbers stand at these places, up to {0, 0}; the other places after it hold 0. */
+struct variant {
+    int line;
+    size_t len;
+    struct {
+        size_t place;
+        uint16_t number;
+    } with[6];
+};
+
+static void make(const struct variant *v, uint16_t numbers[PLACES]) {
+    size_t i;
+    memset(numbers, 0, PLACES * sizeof *numbers);
+    memcpy(numbers, DIAGRAM, sizeof DIAGRAM);
+    for (i = 0; i < COUNT(v->with) && (v->with[i].place != 0 || v->with[i].number != 0); i++) {
+        numbers[v->with[i].place] = v->with[i].number;
+    }
+}
+
+/* Sound, and rules as T does. */
+static const struct variant SOUND[] = {
+    {__LINE__, 63, {{0, 63}}},                                      /* as it is */
+    {__LINE__, 66, {{0, 66}}},                                      /* an unreached terminal */
+    {__LINE__, 67, {{0, 67}, {64, 3}, {65, 1}, {66, 65535}}},       /* and one with a card */
+    {__LINE__, 67, {{0, 67}, {63, 3}, {64, 1}, {65, 1}, {66, 9}}},  /* an unreached node of level 3 */
+    {__LINE__, 67, {{0, 67}, {63, 1}, {64, 1}, {65, 2}, {66, 18}}}, /* and one of level 1 */
+    {__LINE__, 64, {{63, 65535}}},                                  /* anything after the used places */
+    {__LINE__, 80, {{63, 0}, {64, 4}, {65, 65535}, {79, 1}}},
+    {__LINE__, 80, {{63, 1}, {64, 65535}, {66, 63}}},
+};
+
+/* Not sound. */
+static const struct variant UNSOUND[] = {
+    {__LINE__, 63, {{0, 64}}},                                      /* used over the length */
+    {__LINE__, 66, {{0, 67}}},
+    {__LINE__, 63, {{0, 65535}}},
+    {__LINE__, 63, {{0, 62}}},                                      /* used ends inside an entry */
+    {__LINE__, 80, {{0, 64}}},                                      /* a terminal that ends after used */
+    {__LINE__, 80, {{0, 65}}},
+    {__LINE__, 80, {{0, 64}, {63, 3}}},                             /* and a node */
+    {__LINE__, 80, {{0, 66}, {63, 3}, {64, 1}, {65, 1}, {66, 9}}},
+    {__LINE__, 63, {{0, 55}}},                                      /* the root after used */
+    {__LINE__, 63, {{0, 5}}},                                       /* no entries */
+    {__LINE__, 63, {{0, 4}}},                                       /* used ends in the header */
+    {__LINE__, 63, {{2, 256}, {61, 256}}},                          /* a maximum over 255 */
+    {__LINE__, 63, {{6, 4}}},                                       /* decision 4 */
+    {__LINE__, 63, {{8, 0}}},                                       /* a card 0 */
+    {__LINE__, 63, {{41, 0}}},
+    {__LINE__, 63, {{42, 0}}},
+    {__LINE__, 63, {{20, 0}}},                                      /* a last edge below the maximum */
+    {__LINE__, 63, {{20, 2}}},                                      /* and over it */
+    {__LINE__, 63, {{14, 1}}},                                      /* last values that stay */
+    {__LINE__, 63, {{57, 1}, {59, 0}}},                             /* and that fall */
+    {__LINE__, 63, {{59, 3}}},
+    {__LINE__, 63, {{17, 10}}},                                     /* a child inside an entry, at a 0 */
+    {__LINE__, 63, {{58, 13}}},                                     /* and at a 2 */
+    {__LINE__, 63, {{58, 2}}},                                      /* a child in the header, at a 2 */
+    {__LINE__, 63, {{15, 22}}},                                     /* a child that is a later entry */
+    {__LINE__, 63, {{21, 43}}},
+    {__LINE__, 63, {{15, 12}}},                                     /* a child that is the entry itself */
+    {__LINE__, 63, {{58, 55}}},
+    {__LINE__, 63, {{58, 63}}},                                     /* a child at the end of the used places */
+    {__LINE__, 63, {{58, 65535}}},
+    {__LINE__, 63, {{58, 12}}},                                     /* a child at the wrong level: two below, */
+    {__LINE__, 63, {{58, 5}}},                                      /* a terminal for a node, */
+    {__LINE__, 63, {{21, 9}}},
+    {__LINE__, 63, {{46, 12}}},                                     /* a node for a terminal, of its own level, */
+    {__LINE__, 63, {{46, 18}}},                                     /* of the level above */
+    {__LINE__, 63, {{1, 59}}},                                      /* the root inside an entry, at a 1 */
+    {__LINE__, 63, {{1, 6}}},
+    {__LINE__, 63, {{1, 3}}},                                       /* in the header, at a 1 */
+    {__LINE__, 63, {{1, 49}}},                                      /* at the wrong level */
+    {__LINE__, 63, {{1, 5}}},
+    {__LINE__, 63, {{1, 63}}},                                      /* at the end of the used places */
+    {__LINE__, 80, {{1, 63}, {63, 1}, {64, 1}, {65, 2}, {66, 18}}}, /* and a node of level 1 there */
+    {__LINE__, 63, {{1, 65535}}},
+    {__LINE__, 66, {{0, 66}, {64, 4}}},                             /* an unreached terminal with decision 4, */
+    {__LINE__, 67, {{0, 67}, {65, 1}}},                             /* with a card 0 */
+    {__LINE__, 65, {{0, 65}, {63, 3}}},                             /* an unreached node with no edge, */
+    {__LINE__, 67, {{0, 67}, {63, 3}, {64, 1}, {66, 9}}},           /* with a last edge below the maximum, */
+    {__LINE__, 67, {{0, 67}, {63, 3}, {64, 1}, {65, 1}, {66, 10}}}, /* with a child inside an entry, */
+    {__LINE__, 67, {{0, 67}, {63, 4}, {64, 1}, {65, 1}, {66, 9}}},  /* of level 4, */
+    {__LINE__, 67, {{0, 67}, {63, 4}, {64, 1}, {66, 9}}},           /* ending at what follows the maxima */
+};
+
+/* T's diagram and an empty root's, sound and unsound variants, and T's diagram cut short at each length. */
+static void diagrams(void) {
+    struct table t = table_t(), empty = no_nodes(2, 1, 1);
+    uint16_t numbers[PLACES];
+    size_t i;
+    same(__LINE__, "the places of T's diagram", COUNT(DIAGRAM), 63);
+    rules_alike(__LINE__, &t, DIAGRAM, COUNT(DIAGRAM));
+    add(&empty, 0, 1, 0);
+    same(__LINE__, "the places of an empty root's diagram", COUNT(EMPTY), 20);
+    rules_alike(__LINE__, &empty, EMPTY, COUNT(EMPTY));
+    for (i = 0; i < COUNT(SOUND); i++) {
+        make(&SOUND[i], numbers);
+        rules_alike(SOUND[i].line, &t, numbers, SOUND[i].len);
+    }
+    memcpy(numbers, DIAGRAM, sizeof DIAGRAM);
+    memcpy(numbers + COUNT(DIAGRAM), UNSHARED, sizeof UNSHARED);
+    numbers[0] = 87;
+    numbers[1] = 79;
+    rules_alike(__LINE__, &t, numbers, 87);
+    for (i = 0; i < COUNT(UNSOUND); i++) {
+        make(&UNSOUND[i], numbers);
+        refuses_diagram(UNSOUND[i].line, numbers, UNSOUND[i].len);
+    }
+    for (i = 0; i < COUNT(DIAGRAM); i++) {
+        refuses_diagram(__LINE__, DIAGRAM, i);
+    }
+}
+
+/* Places that the entry at place p takes. */
+static size_t entry_size(const uint16_t *d, size_t p) {
+    return d[p] == 0 ? 3 + (size_t)d[p + 2] : 2 + 2 * (size_t)d[p + 1];
+}
+
+/* Whether place p is the start of an entry, or the end of the last: all are passed again from place 5 on. */
+static int starts(const uint16_t *d, size_t p) {
+    size_t at = 5;
+    while (at < p && at < d[0]) {
+        at += entry_size(d, at);
+    }
+    return at == p;
+}
+
+/* Whether place c is the start of an entry of a level, 0 for a terminal, earlier than place p. */
+static int starts_before(const uint16_t *d, size_t p, unsigned level, size_t c) {
+    return c < p && starts(d, c) && d[c] == level;
+}
+
+static int terminal_sound(const uint16_t *d, size_t p) {
+    size_t i;
+    for (i = 0; i < d[p + 2]; i++) {
+        if (d[p + 3 + i] == 0) {
+            return 0;
+        }
+    }
+    return d[p + 1] <= 3 && d[p + 2] <= 127;
+}
+
+static int node_sound(const uint16_t *d, size_t p) {
+    unsigned level = d[p];
+    size_t edges = d[p + 1], j;
+    if (level < 1 || level > 3 || edges < 1) {
+        return 0;
+    }
+    for (j = 0; j < edges; j++) {
+        const uint16_t *edge = d + p + 2 + 2 * j;
+        if (j > 0 && edge[0] <= edge[-2]) {
+            return 0;
+        }
+        if (!starts_before(d, p, level == 3 ? 0 : level + 1, edge[1])) {
+            return 0;
+        }
+    }
+    return d[p + 2 * edges] == d[1 + level];
+}
+
+/* Whether a diagram is sound, in document 01's words. Two numbers after those lent may be read. */
+static int sound(const uint16_t *d, size_t len) {
+    size_t p;
+    if (len < 5 || d[0] > len || d[0] > 32768 || d[2] > 255 || d[3] > 255 || d[4] > 255 || !starts(d, d[0])) {
+        return 0;
+    }
+    for (p = 5; p < d[0]; p++) {
+        if (starts(d, p) && !(d[p] == 0 ? terminal_sound(d, p) : node_sound(d, p))) {
+            return 0;
+        }
+    }
+    return starts_before(d, d[0], 1, d[1]);
+}
+
+/* What a look-up with a list of n places should answer, and the place of the terminal's cards. */
+static kolfsein_answer looked_up(const uint16_t *d, size_t len, struct request q, size_t n, const uint16_t **cards) {
+    size_t p, f, j;
+    *cards = NULL;
+    if (!sound(d, len)) {
+        return refused(KOLFSEIN_DIAGRAM, 0);
+    }
+    for (f = 0; f < 3; f++) {
+        if (q.values[f] > d[2 + f]) {
+            return refused(KOLFSEIN_VALUE, f);
+        }
+    }
+    p = d[1];
+    for (f = 0; f < 3; f++) {
+        for (j = 0; d[p + 2 + 2 * j] < q.values[f]; j++) {
+        }
+        p = d[p + 3 + 2 * j];
+    }
+    if (n < d[p + 2]) {
+        return refused(KOLFSEIN_LIST_TOO_SHORT, 0);
+    }
+    *cards = d + p + 3;
+    return ruled(d[p + 1], d[p + 2]);
+}
+
+/* What is asked of each changed diagram: the values, and a list's length. */
+struct asked {
+    uint16_t values[3];
+    size_t list;
+};
+
+static const struct asked ASKED[] = {
+    {{0, 0, 0}, 3}, {{0, 1, 1}, 0}, {{1, 1, 1}, 1}, {{2, 0, 0}, 4},
+    {{2, 0, 0}, 1}, {{2, 1, 0}, 2}, {{1, 2, 0}, 0}, {{3, 0, 2}, 2},
+};
+
+/* Each number of T's diagram set to each of some: lent alone, and with three zeros after it, a terminal where used. */
+static void changed_diagrams(void) {
+    static const uint16_t others[] = {127, 128, 255, 256, 32768, 65535};
+    size_t len, place, k, i, accepted = 0;
+    for (len = COUNT(DIAGRAM); len <= COUNT(DIAGRAM) + 3; len += 3) {
+        for (place = 0; place < COUNT(DIAGRAM); place++) {
+            for (k = 0; k < 67 + COUNT(others); k++) {
+                uint16_t d[PLACES] = {0};
+                unsigned long before = failures;
+                memcpy(d, DIAGRAM, sizeof DIAGRAM);
+                d[place] = k < 67 ? (uint16_t)k : others[k - 67];
+                accepted += (size_t)sound(d, len);
+                for (i = 0; i < COUNT(ASKED); i++) {
+                    struct request q = request(ASKED[i].values[0], ASKED[i].values[1], ASKED[i].values[2]);
+                    const uint16_t *cards;
+                    kolfsein_answer should = looked_up(d, len, q, ASKED[i].list, &cards);
+                    looks_up(__LINE__, d, len, q, ASKED[i].list, should, cards);
+                }
+                if (failures != before) {
+                    printf("where place %zu of %zu is %u\n", place, len, d[place]);
+                }
+            }
+        }
+    }
+    same(__LINE__, "the number of sound diagrams", accepted, 767);
+}
+
+/* A terminal after the used places, with cards from 1000 on. */
+static size_t add_terminal(uint16_t *d, unsigned decision, size_t count) {
+    size_t p = d[0], i;
+    d[p] = 0;
+    d[p + 1] = (uint16_t)decision;
+    d[p + 2] = (uint16_t)count;
+    for (i = 0; i < count; i++) {
+        d[p + 3 + i] = (uint16_t)(1000 + i);
+    }
+    d[0] = (uint16_t)(p + 3 + count);
+    return p;
+}
+
+/* A node after the used places, with an edge for each value up to 255: the even ones' child and the odd ones'. */
+static size_t add_node(uint16_t *d, unsigned level, size_t even, size_t odd) {
+    size_t p = d[0], v;
+    d[p] = (uint16_t)level;
+    d[p + 1] = 256;
+    for (v = 0; v < 256; v++) {
+        d[p + 2 + 2 * v] = (uint16_t)v;
+        d[p + 3 + 2 * v] = (uint16_t)(v % 2 == 0 ? even : odd);
+    }
+    d[0] = (uint16_t)(p + 2 + 2 * 256);
+    return p;
+}
+
+/*
+ * Nodes with an edge for each value: a request whose values have an even sum is permitted with so many cards, any other
+ * is denied with one. The number of places is handed back.
+ */
+static size_t widest(uint16_t *d, size_t count) {
+    static const uint16_t header[] = {5, 0, 255, 255, 255};
+    size_t level, even, odd, swap;
+    memcpy(d, header, sizeof header);
+    even = add_terminal(d, KOLFSEIN_PERMIT, count);
+    odd = add_terminal(d, KOLFSEIN_DENY, 1);
+    for (level = 3; level >= 2; level--) {
+        swap = add_node(d, (unsigned)level, odd, even);
+        even = add_node(d, (unsigned)level, even, odd);
+        odd = swap;
+    }
+    d[1] = (uint16_t)add_node(d, 1, even, odd);
+    return d[0];
+}
+
+/* T's diagram, then unreached terminals up to so many places or just over, the first of them with so many cards. */
+static size_t filled(uint16_t *d, size_t places, size_t count) {
+    memcpy(d, DIAGRAM, sizeof DIAGRAM);
+    add_terminal(d, KOLFSEIN_INDETERMINATE, count);
+    while (d[0] < places) {
+        add_terminal(d, KOLFSEIN_NOT_APPLICABLE, 0);
+    }
+    return d[0];
+}
+
+/* The most edges, the most cards and the most places; one card or one place more is refused. */
+static void largest_diagrams(void) {
+    static uint16_t d[KOLFSEIN_MOST_PLACES + 1];
+    static const uint16_t ten_twenty[] = {10, 20};
+    uint16_t cards[LIST];
+    size_t len = widest(d, LIST), f, v;
+    for (v = 0; v < LIST; v++) {
+        cards[v] = (uint16_t)(1000 + v);
+    }
+    for (f = 0; f < 3; f++) {
+        struct request q = request(255, 255, 254);
+        for (v = 0; v < 256; v++) {
+            q.values[f] = (uint16_t)v;
+            looks_up(__LINE__, d, len, q, LIST,
+                     (q.values[0] + q.values[1] + q.values[2]) % 2 == 0 ? ruled(KOLFSEIN_PERMIT, LIST)
+                                                                        : ruled(KOLFSEIN_DENY, 1),
+                     cards);
+        }
+        q.values[f] = 256;
+        looks_up(__LINE__, d, len, q, LIST, refused(KOLFSEIN_VALUE, f), NULL);
+    }
+    looks_up(__LINE__, d, len, request(0, 0, 0), LIST - 1, refused(KOLFSEIN_LIST_TOO_SHORT, 0), NULL);
+    len = widest(d, LIST + 1);
+    refuses_diagram(__LINE__, d, len);
+    len = filled(d, KOLFSEIN_MOST_PLACES, 2);
+    same(__LINE__, "the most places", len, KOLFSEIN_MOST_PLACES);
+    looks_up(__LINE__, d, len, request(2, 0, 0), 3, ruled(KOLFSEIN_DENY, 2), ten_twenty);
+    refuses_diagram(__LINE__, d, len - 1);
+    d[1] = KOLFSEIN_MOST_PLACES;
+    refuses_diagram(__LINE__, d, len);
+    len = filled(d, KOLFSEIN_MOST_PLACES, 3);
+    same(__LINE__, "one place more", len, KOLFSEIN_MOST_PLACES + 1);
+    refuses_diagram(__LINE__, d, len);
+}
+
+/* Diagrams of each length around 2,048 places, where the check takes a larger array of marks. */
+static void middling_diagrams(void) {
+    static uint16_t d[KOLFSEIN_MOST_PLACES];
+    static const uint16_t ten_twenty[] = {10, 20};
+    size_t places, count;
+    for (places = 2040; places <= 2056; places++) {
+        for (count = 0; count < 3; count++) {
+            size_t len = filled(d, places, count);
+            looks_up(__LINE__, d, len, request(2, 0, 0), 3, ruled(KOLFSEIN_DENY, 2), ten_twenty);
+            refuses_diagram(__LINE__, d, len - 1);
+            d[1] = (uint16_t)(len - 3);
+            refuses_diagram(__LINE__, d, len);
+            d[1] = 55;
+            d[len - 2] = 4;
+            refuses_diagram(__LINE__, d, len);
+        }
+    }
+}
+
+/* A null pointer where the length is 0: for the table or the diagram, for the list, for both. */
 static void null_pointers(void) {
     uint16_t list[] = {MARK, MARK};
     same_answer(__LINE__, kolfsein_read(NULL, 0), refused(KOLFSEIN_LENGTH, 0));
@@ -348,6 +788,14 @@ static void null_pointers(void) {
     same_answer(__LINE__, kolfsein_rule(T, sizeof T, 2, 0, 0, NULL, 0), refused(KOLFSEIN_LIST_TOO_SHORT, 0));
     same_answer(__LINE__, kolfsein_rule(T, sizeof T, 3, 0, 0, NULL, 0), refused(KOLFSEIN_VALUE, 0));
     same_answer(__LINE__, kolfsein_rule(NULL, 0, 0, 0, 0, NULL, 0), refused(KOLFSEIN_LENGTH, 0));
+    list[0] = list[1] = MARK;
+    same_answer(__LINE__, kolfsein_look_up(NULL, 0, 0, 0, 0, list, 2), refused(KOLFSEIN_DIAGRAM, 0));
+    same(__LINE__, "the first place", list[0], 0);
+    same(__LINE__, "the second place", list[1], 0);
+    same_answer(__LINE__, kolfsein_look_up(DIAGRAM, 63, 2, 0, 1, NULL, 0), ruled(KOLFSEIN_NOT_APPLICABLE, 0));
+    same_answer(__LINE__, kolfsein_look_up(DIAGRAM, 63, 2, 0, 0, NULL, 0), refused(KOLFSEIN_LIST_TOO_SHORT, 0));
+    same_answer(__LINE__, kolfsein_look_up(DIAGRAM, 63, 3, 0, 0, NULL, 0), refused(KOLFSEIN_VALUE, 0));
+    same_answer(__LINE__, kolfsein_look_up(NULL, 0, 0, 0, 0, NULL, 0), refused(KOLFSEIN_DIAGRAM, 0));
 }
 
 int main(void) {
@@ -357,6 +805,10 @@ int main(void) {
     small_tables();
     refusals();
     largest();
+    diagrams();
+    changed_diagrams();
+    largest_diagrams();
+    middling_diagrams();
     null_pointers();
     printf("%lu checks, %lu failures\n", checks, failures);
     return failures != 0;

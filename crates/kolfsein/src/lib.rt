@@ -1,6 +1,7 @@
 // The library's calls for C. `include/kolfsein.h` declares them: a slice is a pointer and then its length.
 use answer::Answer;
 use answer::Request;
+use lookup::look_up;
 use ruling::rule;
 use table::read;
 ghost use mathlib.Core.Path.{_≡_};
@@ -8,6 +9,7 @@ ghost use mathlib.Core.List.{[], _∷_};
 ghost use lib.ListN.{length};
 ghost use Rattle.table.specs.Reading.{reading};
 ghost use Rattle.ruling.specs.Ruling.{ruling, ruledList};
+ghost use Rattle.diagram.specs.LookedUp.{lookedUp, lookedUpList};
 
 // Reads a table.
 #[no_mangle]
@@ -33,4 +35,22 @@ pub extern "C" fn kolfsein_rule(
         values: [subject, resource, action],
     };
     rule(table, request, cards)
+}
+
+// Rules on a request by a diagram, with the cards of the terminal that it reaches.
+#[no_mangle]
+pub extern "C" fn kolfsein_look_up(
+    diagram: &[u16],
+    subject: u16,
+    resource: u16,
+    action: u16,
+    cards: &mut [u16],
+) -> Answer
+    ensures { λ r. ⌜ r ≡ lookedUp (now (diagram .entry)) (subject ∷ resource ∷ action ∷ []) (length (now (cards .entry))) ⌝ }
+    ensures { λ _. ⌜ now (cards .exit) ≡ lookedUpList (now (diagram .entry)) (subject ∷ resource ∷ action ∷ []) (length (now (cards .entry))) ⌝ }
+{
+    let request = Request {
+        values: [subject, resource, action],
+    };
+    look_up(diagram, request, cards)
 }
