@@ -93,7 +93,7 @@ fn above(parents: &[usize; 128], node: usize) -> usize
 }
 
 // Decision 0, count 0, and zeros in the whole list.
-fn refused(number: usize, place: usize) -> Response {
+pub(crate) fn refused(number: usize, place: usize) -> Response {
     Response {
         number,
         place,
@@ -118,13 +118,20 @@ fn field_over(table: &[u8], values: [u16; 3]) -> usize {
 }
 
 // Cards, and zeros after them.
-struct Cards {
-    cards: [u16; ROOM],
-    count: usize,
+pub(crate) struct Cards {
+    pub cards: [u16; ROOM],
+    pub count: usize,
 }
 
 impl Cards {
-    fn with(mut self, card: u16) -> Self {
+    pub(crate) fn new() -> Self {
+        Self {
+            cards: [0; ROOM],
+            count: 0,
+        }
+    }
+
+    pub(crate) fn with(mut self, card: u16) -> Self {
         let at = self.count;
         if at < ROOM {
             self.cards[at] = card;
@@ -138,10 +145,7 @@ impl Cards {
 fn matching_cards(table: &[u8], parents: &[usize; 128], values: [u16; 3], count: usize) -> Cards
     requires { ⌜ count < 129 ⌝ }
 {
-    let mut cards = Cards {
-        cards: [0; ROOM],
-        count: 0,
-    };
+    let mut cards = Cards::new();
     let mut node = 0;
     while node < count {
         if matches(table, parents, values, node) {

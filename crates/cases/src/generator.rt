@@ -31,7 +31,7 @@ fn node_count(state: &mut usize) -> usize
 }
 
 // The largest value of a field, mostly a small one.
-fn maximum(state: &mut usize) -> u8 {
+pub(crate) fn maximum(state: &mut usize) -> u8 {
     let size = random::below(state, 8);
     match size {
         0 => 255,
@@ -113,7 +113,7 @@ fn group_kind(state: &mut usize) -> u8 {
 }
 
 // A rule's card: any, or one of five that are often met again.
-fn card(state: &mut usize, kind: u8) -> u16 {
+pub(crate) fn card(state: &mut usize, kind: u8) -> u16 {
     if kind < 4 {
         return 0;
     }

@@ -1,8 +1,10 @@
 // What the library answers, held to what is expected and to the separate reader or evaluator, and printed.
 use crate::builder::Draft;
+use crate::descent;
 use crate::evaluator;
 use crate::evaluator::ROOM;
 use crate::evaluator::Response;
+use crate::lookups;
 use crate::reader;
 use crate::reader::Outcome;
 use crate::rulings;
@@ -10,12 +12,13 @@ use crate::rulings::Query;
 use answer::Answer;
 use std::num::wrapping_add_usize;
 
-// How many cases there were, how many tables were swept, how many rulings were made beside the cases, and how many of all
-// these differed.
+// How many cases there were, how many tables were swept, how many rulings and look-ups were made beside the cases, and how
+// many of all these differed.
 pub(crate) struct Tally {
     pub cases: usize,
     pub swept: usize,
     pub rulings: usize,
+    pub lookups: usize,
     pub differences: usize,
 }
 
@@ -25,6 +28,7 @@ impl Tally {
             cases: 0,
             swept: 0,
             rulings: 0,
+            lookups: 0,
             differences: 0,
         }
     }
@@ -52,6 +56,17 @@ impl Tally {
         self.tested(right)
     }
 
+    // A case of ruling by a diagram whose name is written, in the same way.
+    pub(crate) fn lookup_case(self, diagram: &[u16], query: Query, expected: Response) -> Self {
+        let values = query.values;
+        let length = query.length;
+        let response = lookups::answered(diagram, values, length);
+        let right = rulings::agree(response, expected, length)
+            && rulings::agree(response, descent::look_up(diagram, values, length), length);
+        print_response(response, length);
+        self.tested(right)
+    }
+
     // The end of a case's line.
     fn tested(self, right: bool) -> Self {
         if right {
@@ -74,14 +89,22 @@ impl Tally {
             cases: wrapping_add_usize(self.cases, cases),
             swept: wrapping_add_usize(self.swept, swept),
             rulings: wrapping_add_usize(self.rulings, rulings),
+            lookups: self.lookups,
             differences: wrapping_add_usize(self.differences, differences),
         }
+    }
+
+    pub(crate) fn looked_up(mut self, lookups: usize, differences: usize) -> Self {
+        self.lookups = wrapping_add_usize(self.lookups, lookups);
+        self.differences = wrapping_add_usize(self.differences, differences);
+        self
     }
 
     pub(crate) fn print(self) {
         named(b"cases", self.cases);
         named(b" swept", self.swept);
         named(b" rulings", self.rulings);
+        named(b" lookups", self.lookups);
         print_differences(self.differences);
     }
 }

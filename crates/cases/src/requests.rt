@@ -1,5 +1,6 @@
 // Requests drawn at random, and the lengths of lists.
 ghost use Prim.Native.Nat.{_<_};
+use crate::checker;
 use crate::evaluator::ROOM;
 use crate::random;
 use crate::reader;
@@ -24,6 +25,31 @@ fn value(state: &mut usize, table: &[u8], field: usize) -> u16
         0 => over(state, most),
         1..=6 => reader::low(table, node, field),
         7..=12 => reader::high(table, node, field),
+        _ => random::below(state, most + 1),
+    };
+    (drawn % 65536) as u16
+}
+
+// One value for each field of a diagram.
+pub(crate) fn values_for(state: &mut usize, diagram: &[u16]) -> [u16; 3] {
+    [
+        value_for(state, diagram, 0),
+        value_for(state, diagram, 1),
+        value_for(state, diagram, 2),
+    ]
+}
+
+// A value for a field: a number of the diagram, brought within the maximum, any other within it, or now and then one over
+// it.
+fn value_for(state: &mut usize, diagram: &[u16], field: usize) -> u16
+    requires { ⌜ field < 3 ⌝ }
+{
+    let most = checker::number(diagram, 2 + field) % 256;
+    let place = random::below(state, checker::number(diagram, 0) + 1);
+    let way = random::below(state, 24);
+    let drawn = match way {
+        0 => over(state, most),
+        1..=12 => checker::number(diagram, place) % (most + 1),
         _ => random::below(state, most + 1),
     };
     (drawn % 65536) as u16

@@ -3,11 +3,12 @@ ghost use Prim.Native.Nat.{_<_};
 use crate::evaluator::ROOM;
 use crate::evaluator::Response;
 use crate::report;
+use answer::Answer;
 use answer::Request;
 use std::num::wrapping_add_usize;
 
 // What the list holds before it is lent.
-const BEFORE: u16 = 9999;
+pub(crate) const BEFORE: u16 = 9999;
 
 // A request's values, and the length of the list that is lent.
 pub(crate) struct Query {
@@ -20,6 +21,11 @@ pub(crate) fn answered(table: &[u8], values: [u16; 3], length: usize) -> Respons
     let mut cards = [BEFORE; ROOM];
     let end = at_most_room(length);
     let answer = ruling::rule(table, Request { values }, &mut cards[..end]);
+    response(answer, cards)
+}
+
+// An answer, with the list as it stands afterwards.
+pub(crate) fn response(answer: Answer, cards: [u16; ROOM]) -> Response {
     Response {
         number: answer.number as usize,
         place: answer.place,
@@ -30,7 +36,7 @@ pub(crate) fn answered(table: &[u8], values: [u16; 3], length: usize) -> Respons
 }
 
 // The length, or as much as there is room for.
-fn at_most_room(length: usize) -> usize
+pub(crate) fn at_most_room(length: usize) -> usize
     ensures { λ r. ⌜ r < 141 ⌝ }
 {
     if length < ROOM { length } else { ROOM }
@@ -64,7 +70,7 @@ fn same(one: [u16; ROOM], other: [u16; ROOM], length: usize) -> bool {
 // How often each decision and each refusal was answered, and the differences.
 pub(crate) struct Rulings {
     pub decisions: [usize; 4],
-    pub refusals: [usize; 11],
+    pub refusals: [usize; 13],
     pub count: usize,
     pub differences: usize,
 }
@@ -73,7 +79,7 @@ impl Rulings {
     pub(crate) fn new() -> Self {
         Self {
             decisions: [0; 4],
-            refusals: [0; 11],
+            refusals: [0; 13],
             count: 0,
             differences: 0,
         }
@@ -87,7 +93,10 @@ impl Rulings {
         length: usize,
         expected: Response,
     ) -> Self {
-        let response = answered(table, values, length);
+        self.compared(answered(table, values, length), expected, length)
+    }
+
+    pub(crate) fn compared(self, response: Response, expected: Response, length: usize) -> Self {
         let right = agree(response, expected, length);
         self.counted(response.number, response.decision, right)
     }
@@ -101,7 +110,7 @@ impl Rulings {
         if number == 0 {
             return self.decided(decision);
         }
-        if number < 11 {
+        if number < 13 {
             let before = self.refusals[number];
             self.refusals[number] = wrapping_add_usize(before, 1);
         }
@@ -118,21 +127,25 @@ impl Rulings {
 
     // The rest of a line.
     pub(crate) fn print(self) {
-        io::write_all(1, b":");
-        let decisions = self.decisions;
         let refusals = self.refusals;
-        report::named(b" none", decisions[0]);
-        report::named(b" may", decisions[1]);
-        report::named(b" not", decisions[2]);
-        report::named(b" unclear", decisions[3]);
+        self.print_decisions();
         io::write_all(1, b" refused");
         print_refusals(refusals);
         report::print_differences(self.differences);
     }
+
+    pub(crate) fn print_decisions(self) {
+        let decisions = self.decisions;
+        io::write_all(1, b":");
+        report::named(b" none", decisions[0]);
+        report::named(b" may", decisions[1]);
+        report::named(b" not", decisions[2]);
+        report::named(b" unclear", decisions[3]);
+    }
 }
 
 // Refusals 1 to 10.
-fn print_refusals(refusals: [usize; 11]) {
+fn print_refusals(refusals: [usize; 13]) {
     let mut number = 1;
     while number < 11 {
         report::item(refusals[number]);

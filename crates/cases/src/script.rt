@@ -1,9 +1,12 @@
 // The named cases, a line each: a table to start from, edits of it, a colon, and the answer that document 01 gives:
 // number, place, count. A case of ruling has a request before the colon, as `; ask 2 0 0 list 3`, and its answer is
-// number, place, decision, count, and the whole list of cards. A line that begins with `#` says what follows.
+// number, place, decision, count, and the whole list of cards. So has a case of ruling by a diagram, which it starts from
+// in place of a table. A line that begins with `#` says what follows.
 ghost use Prim.Native.Nat.{_≤_};
 ghost use lib.ListN.{length};
 use crate::builder::Draft;
+use crate::diagram_edits;
+use crate::diagrams;
 use crate::edits;
 use crate::evaluator::ROOM;
 use crate::evaluator::Response;
@@ -36,6 +39,9 @@ fn case(tally: Tally, line: &[u8]) -> Tally {
     let semicolon = text::find(line, 0, b';', b':');
     let colon = text::find(line, semicolon, b':', b':');
     io::write_all(1, report::part(line, colon));
+    if diagram_edits::is_diagram(line) {
+        return diagram_case(tally, line, semicolon, colon);
+    }
     if semicolon < colon {
         tally.ruling_case(
             made(line, semicolon),
@@ -45,6 +51,18 @@ fn case(tally: Tally, line: &[u8]) -> Tally {
     } else {
         tally.case(made(line, colon), answer(line, colon))
     }
+}
+
+fn diagram_case(tally: Tally, line: &[u8], semicolon: usize, colon: usize) -> Tally
+    requires { ⌜ semicolon ≤ length (now line) ⌝ }
+{
+    let mut numbers = [0; diagrams::ROOM];
+    let length = diagram_edits::made(&mut numbers, line, semicolon);
+    tally.lookup_case(
+        diagrams::part(&numbers, length),
+        asked(line, semicolon),
+        response(line, colon),
+    )
 }
 
 // The request after the semicolon.

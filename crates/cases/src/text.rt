@@ -40,6 +40,17 @@ pub(crate) fn number(text: &[u8], from: usize) -> Parsed {
     Parsed { value: 0, next: at }
 }
 
+// Whether a number starts here: a digit with no digit before it.
+pub(crate) fn starts_number(text: &[u8], at: usize) -> bool {
+    if digit(byte(text, at)) >= 10 {
+        return false;
+    }
+    if at == 0 {
+        return true;
+    }
+    digit(byte(text, at - 1)) >= 10
+}
+
 // The number whose digits start here, within 16 bits.
 fn digits(text: &[u8], from: usize) -> Parsed {
     let mut at = from;

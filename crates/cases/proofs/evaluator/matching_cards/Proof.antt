@@ -11,6 +11,9 @@ Inv-loop table parents values count cards₀ node₀ cards node = node < 129
 abbrev μ-loop : tie.MeasureT-loop
 μ-loop table parents values count cards₀ node₀ cards node = count - node
 
+new-requires : tie.Need-new-requires Inv-loop μ-loop
+new-requires c κs = search needs
+
 loop-holds : tie.Need-loop-holds Inv-loop μ-loop
 loop-holds c = search needs
 
@@ -41,6 +44,7 @@ matching-cards-spec =
     (tie.spec
     Inv-loop
     μ-loop
+    new-requires
     loop-holds
     matches-requires
     card-requires

@@ -18,11 +18,8 @@ slice-aggregate-rule c = simp length-take (omega arith)
 rule-requires : tie.Need-rule-requires
 rule-requires c κs = search needs
 
-cast-t10 : tie.Need-cast-t10
-cast-t10 c = search needs
-
-cast-t11 : tie.Need-cast-t11
-cast-t11 c = search needs
+response-requires : tie.Need-response-requires
+response-requires c κs = search needs
 
 returns : tie.Need-returns
 returns c = search needs
@@ -35,6 +32,5 @@ answered-spec =
     array-borrow-prefix-cards
     slice-aggregate-rule
     rule-requires
-    cast-t10
-    cast-t11
+    response-requires
     returns)
