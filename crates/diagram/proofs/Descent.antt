@@ -16,7 +16,7 @@ use Rattle.diagram.specs.Layout.{mostPlaces, used, root, maximum, levelA
 use Rattle.diagram.specs.LookUp.{rulingAt, child, lookUp, ruledBy}
 use Rattle.diagram.specs.Sound.{EntryBefore, nextLevel, SoundTerminal, SoundNode, Sound}
 use Rattle.diagram.specs.Starts.{size-terminal, size-node, start-gap}
-use Rattle.diagram.specs.LookedUp.{Landed}
+use Rattle.diagram.specs.Landed.{Landed}
 use Rattle.diagram.proofs.ValueTakesARealEdge.{value-takes-a-real-edge}
 
 -- the two steps of a look-up
@@ -103,7 +103,11 @@ module _ (d : List ℕ) (s : Sound fields d) where
     landed p f a h n =
         let e : f ≡ fields = omega (arith, a .few) in
         let x : drop f q ≡ [] = drop-of-length-le q {i = f} (omega arith) in
+        let t : EntryBefore fields d (used d) 0 p = subst (λ (n : ℕ). EntryBefore fields d (used d) (nextLevel fields n) p) e (a .entry) in
         record {
-          entry = subst (λ (n : ℕ). EntryBefore fields d (used d) (nextLevel fields n) p) e (a .entry);
+          entry = t;
+          early = omega (arith, t .earlier, s .used-most);
+          within = terminal-within p t;
+          one-of-four = terminal-there p t .holds .one-of-four;
           ruling = sym (look-up-none d p) ∙ sym (ap (lookUp d p) x) ∙ a .rest;
         }

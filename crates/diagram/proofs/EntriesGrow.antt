@@ -1,7 +1,7 @@
 -- Entering, and the walk, add entries only at the end; what was entered is pointed to from then on.
 -- Assumes nothing.
 use mathlib.Core.Path.{_≡_, refl, sym, ap, _∙_, subst}
-use mathlib.Core.Bool.{Bool, true, false, cond, _&&_, false≢true}
+use mathlib.Core.Bool.{true, false, cond, _&&_, false≢true}
 use mathlib.Core.Logic.{_⊎_, inl, inr, ⊎-elim}
 use mathlib.Core.List.{List, [], _∷_, _++_, append-nil}
 use Prim.Native.Nat.{ℕ, zero, suc, _+_, _-_, _<_}
@@ -10,6 +10,7 @@ use borrow.Author.Tests.{eqb-true, eq-eqb}
 use lib.Dec.{eqb}
 use lib.ListN.{length, take, length-append}
 use Rattle.answer.specs.Rulings.{Ruling}
+use Rattle.answer.proofs.Tests.{both}
 use Rattle.diagram.specs.Layout.{header}
 use Rattle.diagram.specs.Entries.{terminal, node}
 use Rattle.diagram.specs.Walk.{Entries, joined, same, Entered, enter, extend, Open, below, given, walk}
@@ -17,10 +18,6 @@ use Rattle.diagram.specs.Decided.{either}
 use Rattle.diagram.proofs.EntryPlaces.{EntryAt, Begins, begins-itself, begins-on}
 
 -- entries that test as equal are equal
-
-both : (a b : Bool) → (a && b) ≡ true → (a ≡ true) × (b ≡ true)
-both true b e = (refl, e)
-both false b e = absurd (false≢true e)
 
 same-equal : (x y : List ℕ) → same x y ≡ true → x ≡ y
 same-equal [] [] e = refl

@@ -13,7 +13,7 @@ use Rattle.answer.specs.Requests.{value, Within}
 use Rattle.diagram.specs.Layout.{root, maximum, countAt}
 use Rattle.diagram.specs.LookUp.{rulingAt, child, ruledBy}
 use Rattle.diagram.specs.Sound.{Holdable, SoundTerminal, Sound}
-use Rattle.diagram.specs.LookedUp.{Landed}
+use Rattle.diagram.specs.Landed.{Landed}
 use Rattle.diagram.proofs.Descent.{Down, down-none, down-more, landed, terminal-there, cards-counted}
 
 module _ (d q : List ℕ) (s : Sound fields d) (w : Within (maximum d) q) (l : length q ≡ fields) where

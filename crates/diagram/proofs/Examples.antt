@@ -5,6 +5,7 @@ use mathlib.Core.Bool.{true}
 use mathlib.Core.List.{List, [], _∷_}
 use Prim.Native.Nat.{ℕ, _+_, _*_}
 use lib.ListN.{getD, take, set}
+use Rattle.answer.specs.Fields.{fields}
 use Rattle.answer.specs.Answers.{refused, ruled}
 use Rattle.answer.specs.Requests.{value, fieldFault}
 use Rattle.answer.specs.Rulings.{Ruling, answered, listed}
@@ -73,7 +74,7 @@ unfolding diagram walk enter extend below terminal node
 walked-T = refl
 
 -- it is sound
-pub sound-T : yes? (sound? 3 diagramT) ≡ true
+pub sound-T : yes? (sound? fields diagramT) ≡ true
 unfolding le? lt? eq? iff? not? and? or? when? one-more? each? scan? start? entry-before? terminal-holds? sound-terminal? sound-node? sound-entry? sound?
 sound-T = refl
 

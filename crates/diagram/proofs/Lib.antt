@@ -1,5 +1,5 @@
 -- What proofs about diagrams use, and the theorems.
-pub mod Told
+pub mod Deciding
 pub mod FirstEdge
 pub mod ValueTakesARealEdge
 pub mod StandsIn

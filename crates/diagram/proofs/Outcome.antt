@@ -14,12 +14,13 @@ use Rattle.answer.specs.Rulings.{answered, listed}
 use Rattle.answer.specs.declared.Answer.{Answer}
 use Rattle.answer.proofs.Settling.{refuses, request-over, list-short, list-long}
 use Rattle.answer.proofs.Stored.{stored-padded}
-use Rattle.diagram.specs.Layout.{mostPlaces, maximum, decisionAt, countAt}
+use Rattle.diagram.specs.Layout.{maximum, decisionAt, countAt}
 use Rattle.diagram.specs.LookUp.{ruledBy}
 use Rattle.diagram.specs.Sound.{Sound}
-use Rattle.diagram.specs.LookedUp.{lookedUp, lookedUpList, Landed}
-use Rattle.diagram.proofs.Told.{sound-is}
-use Rattle.diagram.proofs.Descent.{terminal-there, terminal-within, cards-counted}
+use Rattle.diagram.specs.Landed.{Landed}
+use Rattle.diagram.specs.LookedUp.{lookedUp, lookedUpList}
+use Rattle.diagram.proofs.Deciding.{sound-is}
+use Rattle.diagram.proofs.Descent.{cards-counted}
 
 module _ (d q : List ℕ) (n : ℕ) where
   -- the list shows the terminal's cards
@@ -63,12 +64,6 @@ module _ (d q : List ℕ) (n : ℕ) where
     module _ (p : ℕ) (l : Landed d q p) where
       cards-there : take (countAt d p) (drop (p + 3) d) ≡ ruledBy d q .cards
       cards-there = ap (λ r. r .cards) (l .ruling)
-
-      pub terminal-here : (p < mostPlaces) × ((p + 3 + countAt d p ≤ length d) × (decisionAt d p ≤ 3))
-      terminal-here = (
-        omega (arith, l .entry .earlier, s .used-most),
-        (terminal-within d s p (l .entry), terminal-there d s p (l .entry) .holds .one-of-four),
-      )
 
       counted : (k : ℕ) → k ≡ countAt d p → k ≡ length (ruledBy d q .cards)
       counted k e = e ∙ sym (cards-counted d s p (l .entry)) ∙ ap length cards-there

@@ -34,26 +34,30 @@ maximum d f = numberAt d (2 + f)
 abbrev pub levelAt : List ℕ → ℕ → ℕ
 levelAt d p = numberAt d p
 
--- "label: 0, decision, number of cards, the cards"
+-- "label: 0, decision, number of cards, the cards": the decision of the label at p
 abbrev pub decisionAt : List ℕ → ℕ → ℕ
 decisionAt d p = numberAt d (p + 1)
 
+-- "number of cards"
 abbrev pub countAt : List ℕ → ℕ → ℕ
 countAt d p = numberAt d (p + 2)
 
+-- "the cards": the i-th
 abbrev pub cardAt : List ℕ → ℕ → ℕ → ℕ
 cardAt d p i = numberAt d (p + 3 + i)
 
--- "node: level [..], number of edges, then for each edge its last value and its child's place"
+-- "node: level [..], number of edges, then for each edge [..]": the number of edges of the node at p
 abbrev pub edgesAt : List ℕ → ℕ → ℕ
 edgesAt d p = numberAt d (p + 1)
 
+-- "for each edge its last value": that of the j-th
 abbrev pub lastAt : List ℕ → ℕ → ℕ → ℕ
 lastAt d p j = numberAt d (p + 2 + 2 * j)
 
+-- "and its child's place": that of the j-th
 abbrev pub childAt : List ℕ → ℕ → ℕ → ℕ
 childAt d p j = numberAt d (p + 3 + 2 * j)
 
--- how many places the entry at p takes, a label or a node
+-- how many places the entry at p takes: "label: 0, decision, number of cards, the cards", or "node: level [..], number of edges, then for each edge its last value and its child's place"
 abbrev pub sizeAt : List ℕ → ℕ → ℕ
 sizeAt d p = cond (eqb (levelAt d p) 0) (3 + countAt d p) (2 + 2 * edgesAt d p)

@@ -6,4 +6,5 @@ pub mod Sound
 pub mod Decided
 pub mod Starts
 pub mod SoundIsDecided
+pub mod Landed
 pub mod LookedUp

@@ -1,6 +1,5 @@
 -- What ruling by a diagram answers, and what it leaves in the lent list, for every slice, request and list: refusals 12, 9 and 10, in order.
 -- Assumes nothing: these are definitions.
-use mathlib.Core.Path.{_≡_}
 use mathlib.Core.Bool.{cond}
 use mathlib.Core.List.{List}
 use Prim.Native.Nat.{ℕ}
@@ -8,9 +7,8 @@ use Rattle.answer.specs.Fields.{fields}
 use Rattle.answer.specs.Answers.{refused}
 use Rattle.answer.specs.Rulings.{answered, listed}
 use Rattle.answer.specs.declared.Answer.{Answer}
-use Rattle.diagram.specs.Layout.{used, maximum}
-use Rattle.diagram.specs.LookUp.{rulingAt, ruledBy}
-use Rattle.diagram.specs.Sound.{EntryBefore}
+use Rattle.diagram.specs.Layout.{maximum}
+use Rattle.diagram.specs.LookUp.{ruledBy}
 use Rattle.diagram.specs.Decided.{yes?}
 use Rattle.diagram.specs.SoundIsDecided.{sound?}
 
@@ -21,8 +19,3 @@ lookedUp d q n = cond (yes? (sound? fields d)) (answered (maximum d) q (ruledBy 
 -- what the list then holds: the cards, "then zeros to the list's end", zeros in a refusal
 unfoldable pub lookedUpList : List ℕ → List ℕ → ℕ → List ℕ
 lookedUpList d q n = listed (lookedUp d q n) (ruledBy d q .cards) n
-
--- for the contract of the descent: place p starts the terminal that request q reaches
-pub record Landed (d q : List ℕ) (p : ℕ) : Type 0 where
-  pub entry : EntryBefore fields d (used d) 0 p
-  pub ruling : rulingAt d p ≡ ruledBy d q

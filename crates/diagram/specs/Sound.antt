@@ -10,7 +10,7 @@ use lib.ListN.{length, getD}
 use Rattle.answer.specs.Rulings.{Ruling}
 use Rattle.diagram.specs.Layout.{header, mostPlaces, used, root, maximum, levelAt, decisionAt, countAt, cardAt, edgesAt, lastAt, childAt, sizeAt}
 
--- where entries start: the place after the header, and the place after each entry that starts before the used places end
+-- "entries tile exactly the places from 5": an entry starts after the header, and after each entry that starts before the used places end
 pub data Start (k : ℕ) (d : List ℕ) : ℕ → Type 0 where
   first : Start k d (header k)
   next : (p n : ℕ) → Start k d p → p < used d → n ≡ p + sizeAt d p → Start k d n
@@ -31,7 +31,7 @@ pub record TerminalHolds (decision count : ℕ) (card : ℕ → ℕ) : Type 0 wh
   pub at-most : count ≤ 127
   pub none-zero : (i : ℕ) → i < count → card i ≡ 0 → ⊥
 
--- a ruling that a terminal can hold
+-- a ruling that such a label can hold
 abbrev pub Holdable : Ruling → Type 0
 Holdable r = TerminalHolds (r .decision) (length (r .cards)) (λ i. getD (r .cards) i 0)
 
@@ -71,5 +71,5 @@ pub record Sound (k : ℕ) (d : List ℕ) : Type 0 where
   pub tiled : Start k d (used d)
   -- "a label has [..]; a node has [..]"
   pub entries : (p : ℕ) → Start k d p → p < used d → SoundEntry k d p
-  -- "the root place is the start of a level 1 entry"
+  -- "the root place is the start of a level 1 entry", one of the used places
   pub root-entry : EntryBefore k d (used d) 1 (root d)

@@ -9,7 +9,7 @@ use Rattle.answer.specs.Rulings.{Ruling}
 use Rattle.diagram.specs.Layout.{header}
 use Rattle.diagram.specs.Entries.{terminal, Edge, node}
 
--- the entries, in the order in which they follow one another
+-- "Entries follow from place 5": in the order in which they follow one another
 abbrev pub Entries : Type 0
 Entries = List (List ℕ)
 
@@ -18,7 +18,7 @@ abbrev pub joined : Entries → List ℕ
 joined [] = []
 joined (x ∷ xs) = x ++ joined xs
 
--- two entries are equal, number for number
+-- "equal entry": equal number for number
 abbrev pub same : List ℕ → List ℕ → Bool
 same [] [] = true
 same [] (y ∷ ys) = false
@@ -43,12 +43,12 @@ extend [] v c = record { last = v; child = c } ∷ []
 extend (e ∷ []) v c = cond (eqb (e .child) c) (record { last = v; child = c } ∷ []) (e ∷ record { last = v; child = c } ∷ [])
 extend (e ∷ f ∷ es) v c = e ∷ extend (f ∷ es) v c
 
--- the entries so far, and the open edges of a level
+-- the entries so far, and the "open edges" of a level
 pub record Open : Type 0 where
   pub entries : Entries
   pub edges : List Edge
 
--- "a walk of all who values upward": the values of a level below n, where `under v` enters all under value v
+-- "a walk of all who values upward, within each all where values": the values of a level below n, where `under v` enters all under value v
 unfoldable pub below : (ℕ → Entries → Entered) → Entries → ℕ → Open
 below under es zero = record { entries = es; edges = [] }
 below under es (suc v) =
@@ -60,7 +60,7 @@ below under es (suc v) =
 abbrev pub given : (List ℕ → Ruling) → ℕ → List ℕ → Ruling
 given f v q = f (v ∷ q)
 
--- "A label or node is entered once all under it is entered", "No level is left out": the walk over the last fields of k, with the maxima ms
+-- "A label or node is entered once all under it is entered", "No level is left out": the walk over the last fields of k, with the maxima ms; "level (1 who, 2 where, 3 deed)" goes by how many are left
 unfoldable pub walk : ℕ → List ℕ → (List ℕ → Ruling) → Entries → Entered
 walk k [] f es = enter (header k) es (terminal (f []))
 walk k (m ∷ ms) f es =

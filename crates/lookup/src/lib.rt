@@ -13,7 +13,8 @@ ghost use Rattle.answer.specs.Requests.{Within, fieldFault};
 ghost use Rattle.diagram.specs.Layout.{header, mostPlaces, maximum, levelAt, edgesAt};
 ghost use Rattle.diagram.specs.LookUp.{child};
 ghost use Rattle.diagram.specs.Sound.{SoundNode, Sound};
-ghost use Rattle.diagram.specs.LookedUp.{lookedUp, lookedUpList, Landed};
+ghost use Rattle.diagram.specs.Landed.{Landed};
+ghost use Rattle.diagram.specs.LookedUp.{lookedUp, lookedUpList};
 
 // The first field whose value is over its maximum, or FIELDS.
 fn field_fault(diagram: &[u16], values: &[u16; FIELDS]) -> usize

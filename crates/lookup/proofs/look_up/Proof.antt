@@ -6,11 +6,9 @@ use native.Mathlib.Omega.{arith}
 use borrow.Author.Needs.{needs}
 use lib.ListN.{length}
 use Rattle.answer.proofs.FirstField.{none-within}
-use Rattle.answer.specs.Fields.{fields}
-use Rattle.diagram.specs.Sound.{Sound}
 use Rattle.diagram.specs.Layout.{maximum, countAt}
-use Rattle.diagram.proofs.Outcome.{unsound, over, terminal-here, short, good}
-use Rattle.diagram.proofs.Told.{refuted, affirmed, is-sound}
+use Rattle.diagram.proofs.Deciding.{found-unsound, found-sound}
+use Rattle.diagram.proofs.Outcome.{unsound, over, short, good}
 use Rattle.lookup.proofs.look_up.Statement.{statement}
 use Rattle.lookup.proofs.look_up.Tie as tie
 
@@ -30,12 +28,12 @@ returns : tie.Need-returns
 returns c =
     let s = c .before .before .before .before .before .before .before .before .before .args in
     let d = s .diagram .now in
-    unsound d (s .request .values) (length (s .cards .now)) (c .refused .result) (c .before .before .before .before .before .clear .last .0) (refuted (Sound fields d) (c .before .before .is-sound .result) (is-sound d (c .before .before .is-sound .result) (c .before .before .is-sound .ensures)) (c .before .if1 .taken)) (c .refused .ensures) (c .before .before .before .before .before .clear .ensures)
+    unsound d (s .request .values) (length (s .cards .now)) (c .refused .result) (c .before .before .before .before .before .clear .last .0) (found-unsound d (c .before .before .is-sound .result) (c .before .before .is-sound .ensures) (c .before .if1 .taken)) (c .refused .ensures) (c .before .before .before .before .before .clear .ensures)
 
 field-fault-requires : tie.Need-field-fault-requires
 field-fault-requires c κs =
     let d = c .before .before .before .before .before .before .before .before .before .before .args .diagram .now in
-    affirmed (Sound fields d) (c .before .before .before .is-sound .result) (is-sound d (c .before .before .before .is-sound .result) (c .before .before .before .is-sound .ensures)) (c .before .before .if1 .left) .header-there
+    found-sound d (c .before .before .before .is-sound .result) (c .before .before .before .is-sound .ensures) (c .before .before .if1 .left) .header-there
 
 refused-requires-2 : tie.Need-refused-requires-2
 refused-requires-2 c κs = search needs
@@ -47,47 +45,27 @@ returns-2 : tie.Need-returns-2
 returns-2 c =
     let s = c .before .before .before .before .before .before .before .before .before .before .before .before .before .args in
     let d = s .diagram .now in
-    let sound = affirmed (Sound fields d) (c .before .before .before .before .before .before .is-sound .result) (is-sound d (c .before .before .before .before .before .before .is-sound .result) (c .before .before .before .before .before .before .is-sound .ensures)) (c .before .before .before .before .before .if1 .left) in
+    let sound = found-sound d (c .before .before .before .before .before .before .is-sound .result) (c .before .before .before .before .before .before .is-sound .ensures) (c .before .before .before .before .before .if1 .left) in
     over d (s .request .values) (length (s .cards .now)) sound (c .refused2 .result) (c .before .before .before .before .before .before .before .before .before .clear .last .0) (c .before .before .field-fault .result) (c .before .before .field-fault .ensures) (c .before .if2 .taken) (c .refused2 .ensures) (c .before .before .before .before .before .before .before .before .before .clear .ensures)
 
 descend-requires : tie.Need-descend-requires
 descend-requires c κs =
     let s = c .before .before .before .before .before .before .before .before .before .before .before .before .args in
     let d = s .diagram .now in
-    let sound = affirmed (Sound fields d) (c .before .before .before .before .before .is-sound .result) (is-sound d (c .before .before .before .before .before .is-sound .result) (c .before .before .before .before .before .is-sound .ensures)) (c .before .before .before .before .if1 .left) in
+    let sound = found-sound d (c .before .before .before .before .before .is-sound .result) (c .before .before .before .before .before .is-sound .ensures) (c .before .before .before .before .if1 .left) in
     (sound, none-within (maximum d) (s .request .values) (omega (arith, c .before .field-fault .ensures, c .if2 .left)))
 
 add-count : tie.Need-add-count
-add-count c =
-    let s = c .before .before .before .before .before .before .before .before .before .before .before .before .before .args in
-    let d = s .diagram .now in
-    let sound = affirmed (Sound fields d) (c .before .before .before .before .before .before .is-sound .result) (is-sound d (c .before .before .before .before .before .before .is-sound .result) (c .before .before .before .before .before .before .is-sound .ensures)) (c .before .before .before .before .before .if1 .left) in
-    let t = terminal-here d (s .request .values) (length (s .cards .now)) sound (c .descend .result) (c .descend .ensures) in
-    omega (arith, t .0, t .1 .0, t .1 .1)
+add-count c = search needs
 
 mul-count : tie.Need-mul-count
-mul-count c =
-    let s = c .before .before .before .before .before .before .before .before .before .before .before .before .before .args in
-    let d = s .diagram .now in
-    let sound = affirmed (Sound fields d) (c .before .before .before .before .before .before .is-sound .result) (is-sound d (c .before .before .before .before .before .before .is-sound .result) (c .before .before .before .before .before .before .is-sound .ensures)) (c .before .before .before .before .before .if1 .left) in
-    let t = terminal-here d (s .request .values) (length (s .cards .now)) sound (c .descend .result) (c .descend .ensures) in
-    omega (arith, t .0, t .1 .0, t .1 .1)
+mul-count c = search needs
 
 shared-slice-read-count : tie.Need-shared-slice-read-count
-shared-slice-read-count c =
-    let s = c .before .before .before .before .before .before .before .before .before .before .before .before .before .before .args in
-    let d = s .diagram .now in
-    let sound = affirmed (Sound fields d) (c .before .before .before .before .before .before .before .is-sound .result) (is-sound d (c .before .before .before .before .before .before .before .is-sound .result) (c .before .before .before .before .before .before .before .is-sound .ensures)) (c .before .before .before .before .before .before .if1 .left) in
-    let t = terminal-here d (s .request .values) (length (s .cards .now)) sound (c .before .descend .result) (c .before .descend .ensures) in
-    omega (arith, t .0, t .1 .0, t .1 .1)
+shared-slice-read-count c = search needs
 
 cast-count : tie.Need-cast-count
-cast-count c =
-    let s = c .before .before .before .before .before .before .before .before .before .before .before .before .before .before .args in
-    let d = s .diagram .now in
-    let sound = affirmed (Sound fields d) (c .before .before .before .before .before .before .before .is-sound .result) (is-sound d (c .before .before .before .before .before .before .before .is-sound .result) (c .before .before .before .before .before .before .before .is-sound .ensures)) (c .before .before .before .before .before .before .if1 .left) in
-    let t = terminal-here d (s .request .values) (length (s .cards .now)) sound (c .before .descend .result) (c .before .descend .ensures) in
-    omega (arith, t .0, t .1 .0, t .1 .1)
+cast-count c = search needs
 
 refused-requires-3 : tie.Need-refused-requires-3
 refused-requires-3 c κs = search needs
@@ -99,32 +77,17 @@ returns-3 : tie.Need-returns-3
 returns-3 c =
     let s = c .before .before .before .before .before .before .before .before .before .before .before .before .before .before .before .before .args in
     let d = s .diagram .now in
-    let sound = affirmed (Sound fields d) (c .before .before .before .before .before .before .before .before .before .is-sound .result) (is-sound d (c .before .before .before .before .before .before .before .before .before .is-sound .result) (c .before .before .before .before .before .before .before .before .before .is-sound .ensures)) (c .before .before .before .before .before .before .before .before .if1 .left) in
+    let sound = found-sound d (c .before .before .before .before .before .before .before .before .before .is-sound .result) (c .before .before .before .before .before .before .before .before .before .is-sound .ensures) (c .before .before .before .before .before .before .before .before .if1 .left) in
     short d (s .request .values) (length (s .cards .now)) sound (c .before .before .before .descend .result) (c .before .before .before .descend .ensures) (c .before .before .before .before .before .field-fault .result) _ (c .before .before .before .before .before .field-fault .ensures) (c .before .before .before .before .if2 .left) refl (c .refused3 .result) (c .before .before .before .before .before .before .before .before .before .before .before .before .clear .last .0) (omega (arith, c .before .if3 .taken, c .before .before .before .before .before .before .before .before .before .before .before .before .clear .kept .0)) (c .refused3 .ensures) (c .before .before .before .before .before .before .before .before .before .before .before .before .clear .ensures)
 
 add-from : tie.Need-add-from
-add-from c =
-    let s = c .before .before .before .before .before .before .before .before .before .before .before .before .before .before .before .args in
-    let d = s .diagram .now in
-    let sound = affirmed (Sound fields d) (c .before .before .before .before .before .before .before .before .is-sound .result) (is-sound d (c .before .before .before .before .before .before .before .before .is-sound .result) (c .before .before .before .before .before .before .before .before .is-sound .ensures)) (c .before .before .before .before .before .before .before .if1 .left) in
-    let t = terminal-here d (s .request .values) (length (s .cards .now)) sound (c .before .before .descend .result) (c .before .before .descend .ensures) in
-    omega (arith, t .0, t .1 .0, t .1 .1)
+add-from c = search needs
 
 add-to : tie.Need-add-to
-add-to c =
-    let s = c .before .before .before .before .before .before .before .before .before .before .before .before .before .before .before .args in
-    let d = s .diagram .now in
-    let sound = affirmed (Sound fields d) (c .before .before .before .before .before .before .before .before .is-sound .result) (is-sound d (c .before .before .before .before .before .before .before .before .is-sound .result) (c .before .before .before .before .before .before .before .before .is-sound .ensures)) (c .before .before .before .before .before .before .before .if1 .left) in
-    let t = terminal-here d (s .request .values) (length (s .cards .now)) sound (c .before .before .descend .result) (c .before .before .descend .ensures) in
-    omega (arith, t .0, t .1 .0, t .1 .1)
+add-to c = search needs
 
 mul-store : tie.Need-mul-store
-mul-store c =
-    let s = c .before .before .before .before .before .before .before .before .before .before .before .before .before .before .before .args in
-    let d = s .diagram .now in
-    let sound = affirmed (Sound fields d) (c .before .before .before .before .before .before .before .before .is-sound .result) (is-sound d (c .before .before .before .before .before .before .before .before .is-sound .result) (c .before .before .before .before .before .before .before .before .is-sound .ensures)) (c .before .before .before .before .before .before .before .if1 .left) in
-    let t = terminal-here d (s .request .values) (length (s .cards .now)) sound (c .before .before .descend .result) (c .before .before .descend .ensures) in
-    omega (arith, t .0, t .1 .0, t .1 .1)
+mul-store c = search needs
 
 sub-store : tie.Need-sub-store
 sub-store c = search needs
@@ -133,47 +96,22 @@ part-store-start : tie.Need-part-store-start
 part-store-start c = search needs
 
 part-store-end : tie.Need-part-store-end
-part-store-end c =
-    let s = c .before .before .before .before .before .before .before .before .before .before .before .before .before .before .before .args in
-    let d = s .diagram .now in
-    let sound = affirmed (Sound fields d) (c .before .before .before .before .before .before .before .before .is-sound .result) (is-sound d (c .before .before .before .before .before .before .before .before .is-sound .result) (c .before .before .before .before .before .before .before .before .is-sound .ensures)) (c .before .before .before .before .before .before .before .if1 .left) in
-    let t = terminal-here d (s .request .values) (length (s .cards .now)) sound (c .before .before .descend .result) (c .before .before .descend .ensures) in
-    omega (arith, t .0, t .1 .0, t .1 .1)
+part-store-end c = search needs
 
 store-requires : tie.Need-store-requires
 store-requires c κs = search needs
 
 add-ruled : tie.Need-add-ruled
-add-ruled c =
-    let s = c .before .before .before .before .before .before .before .before .before .before .before .before .before .before .before .before .before .before .before .before .args in
-    let d = s .diagram .now in
-    let sound = affirmed (Sound fields d) (c .before .before .before .before .before .before .before .before .before .before .before .before .before .is-sound .result) (is-sound d (c .before .before .before .before .before .before .before .before .before .before .before .before .before .is-sound .result) (c .before .before .before .before .before .before .before .before .before .before .before .before .before .is-sound .ensures)) (c .before .before .before .before .before .before .before .before .before .before .before .before .if1 .left) in
-    let t = terminal-here d (s .request .values) (length (s .cards .now)) sound (c .before .before .before .before .before .before .before .descend .result) (c .before .before .before .before .before .before .before .descend .ensures) in
-    omega (arith, t .0, t .1 .0, t .1 .1)
+add-ruled c = search needs
 
 mul-ruled : tie.Need-mul-ruled
-mul-ruled c =
-    let s = c .before .before .before .before .before .before .before .before .before .before .before .before .before .before .before .before .before .before .before .before .args in
-    let d = s .diagram .now in
-    let sound = affirmed (Sound fields d) (c .before .before .before .before .before .before .before .before .before .before .before .before .before .is-sound .result) (is-sound d (c .before .before .before .before .before .before .before .before .before .before .before .before .before .is-sound .result) (c .before .before .before .before .before .before .before .before .before .before .before .before .before .is-sound .ensures)) (c .before .before .before .before .before .before .before .before .before .before .before .before .if1 .left) in
-    let t = terminal-here d (s .request .values) (length (s .cards .now)) sound (c .before .before .before .before .before .before .before .descend .result) (c .before .before .before .before .before .before .before .descend .ensures) in
-    omega (arith, t .0, t .1 .0, t .1 .1)
+mul-ruled c = search needs
 
 shared-slice-read-ruled : tie.Need-shared-slice-read-ruled
-shared-slice-read-ruled c =
-    let s = c .before .before .before .before .before .before .before .before .before .before .before .before .before .before .before .before .before .before .before .before .before .args in
-    let d = s .diagram .now in
-    let sound = affirmed (Sound fields d) (c .before .before .before .before .before .before .before .before .before .before .before .before .before .before .is-sound .result) (is-sound d (c .before .before .before .before .before .before .before .before .before .before .before .before .before .before .is-sound .result) (c .before .before .before .before .before .before .before .before .before .before .before .before .before .before .is-sound .ensures)) (c .before .before .before .before .before .before .before .before .before .before .before .before .before .if1 .left) in
-    let t = terminal-here d (s .request .values) (length (s .cards .now)) sound (c .before .before .before .before .before .before .before .before .descend .result) (c .before .before .before .before .before .before .before .before .descend .ensures) in
-    omega (arith, t .0, t .1 .0, t .1 .1)
+shared-slice-read-ruled c = search needs
 
 cast-ruled : tie.Need-cast-ruled
-cast-ruled c =
-    let s = c .before .before .before .before .before .before .before .before .before .before .before .before .before .before .before .before .before .before .before .before .before .args in
-    let d = s .diagram .now in
-    let sound = affirmed (Sound fields d) (c .before .before .before .before .before .before .before .before .before .before .before .before .before .before .is-sound .result) (is-sound d (c .before .before .before .before .before .before .before .before .before .before .before .before .before .before .is-sound .result) (c .before .before .before .before .before .before .before .before .before .before .before .before .before .before .is-sound .ensures)) (c .before .before .before .before .before .before .before .before .before .before .before .before .before .if1 .left) in
-    let t = terminal-here d (s .request .values) (length (s .cards .now)) sound (c .before .before .before .before .before .before .before .before .descend .result) (c .before .before .before .before .before .before .before .before .descend .ensures) in
-    omega (arith, t .0, t .1 .0, t .1 .1)
+cast-ruled c = search needs
 
 ruled-requires : tie.Need-ruled-requires
 ruled-requires c κs = search needs
@@ -185,7 +123,7 @@ returns-4 : tie.Need-returns-4
 returns-4 c =
     let s = c .before .before .before .before .before .before .before .before .before .before .before .before .before .before .before .before .before .before .before .before .before .before .args in
     let d = s .diagram .now in
-    let sound = affirmed (Sound fields d) (c .before .before .before .before .before .before .before .before .before .before .before .before .before .before .before .is-sound .result) (is-sound d (c .before .before .before .before .before .before .before .before .before .before .before .before .before .before .before .is-sound .result) (c .before .before .before .before .before .before .before .before .before .before .before .before .before .before .before .is-sound .ensures)) (c .before .before .before .before .before .before .before .before .before .before .before .before .before .before .if1 .left) in
+    let sound = found-sound d (c .before .before .before .before .before .before .before .before .before .before .before .before .before .before .before .is-sound .result) (c .before .before .before .before .before .before .before .before .before .before .before .before .before .before .before .is-sound .ensures) (c .before .before .before .before .before .before .before .before .before .before .before .before .before .before .if1 .left) in
     good d (s .request .values) (length (s .cards .now)) sound (c .before .before .before .before .before .before .before .before .before .descend .result) (c .before .before .before .before .before .before .before .before .before .descend .ensures) (c .before .before .before .before .before .before .before .before .before .before .before .field-fault .result) _ (c .before .before .before .before .before .before .before .before .before .before .before .field-fault .ensures) (c .before .before .before .before .before .before .before .before .before .before .if2 .left) refl (c .ruled .result) (c .before .before .before .before .store .last .1 .0) (c .before .before .before .before .before .before .before .before .before .before .before .before .before .before .before .before .before .before .clear .last .0) _ (c .before .before .before .before .before .before .before .before .before .descend .result + 3 + countAt d (c .before .before .before .before .before .before .before .before .before .descend .result) - (c .before .before .before .before .before .before .before .before .before .descend .result + 3)) (omega (arith, c .before .before .before .before .before .before .before .if3 .left, c .before .before .before .before .before .before .before .before .before .before .before .before .before .before .before .before .before .before .clear .kept .0)) refl (c .ruled .ensures) (c .before .before .before .before .before .before .before .before .before .before .before .before .before .before .before .before .before .before .clear .ensures) (omega arith) (c .before .before .before .before .store .ensures)
 
 pub look-up-spec : {M : Type 1} → statement M

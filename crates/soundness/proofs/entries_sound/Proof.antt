@@ -9,7 +9,7 @@ use Rattle.answer.specs.Fields.{fields}
 use Rattle.diagram.specs.Sound.{SoundEntry}
 use Rattle.diagram.specs.Starts.{size-two}
 use Rattle.diagram.specs.Layout.{used}
-use Rattle.diagram.proofs.Told.{refuted, affirmed}
+use Rattle.diagram.proofs.Deciding.{refuted, affirmed}
 use Rattle.soundness.proofs.EntryByEntry.{entry-level, Passed, passed-none, passed-whole, passed-more, not-tiled, not-entry, root-past, root-decides}
 use Rattle.soundness.proofs.entries_sound.Statement.{statement}
 use Rattle.soundness.proofs.entries_sound.Tie as tie

@@ -4,7 +4,7 @@ use mathlib.Core.Bool.{false}
 use mathlib.Core.Path.{refl}
 use native.Mathlib.Omega.{arith}
 use borrow.Author.Needs.{needs}
-use Rattle.diagram.proofs.Told.{refuted, affirmed, sound-is}
+use Rattle.diagram.proofs.Deciding.{refuted, affirmed, sound-is}
 use Rattle.soundness.specs.Pass.{Opened}
 use Rattle.soundness.proofs.EntryByEntry.{sound-opened}
 use Rattle.soundness.proofs.is_sound.Statement.{statement}

@@ -29,5 +29,9 @@ module _ (d : List ℕ) where
   pub sound-is : (b : Bool) → Decides (Sound fields d) b → b ≡ yes? (sound? fields d)
   sound-is b h = decides-same (Sound fields d) b (yes? (sound? fields d)) h (yes-decides (sound? fields d))
 
-  pub is-sound : (b : Bool) → b ≡ yes? (sound? fields d) → Decides (Sound fields d) b
-  is-sound b e = subst (Decides (Sound fields d)) (sym e) (yes-decides (sound? fields d))
+  -- what the decision tells, turned round in the code
+  pub found-unsound : (b : Bool) → b ≡ yes? (sound? fields d) → not b ≡ true → Sound fields d → ⊥
+  found-unsound b e = refuted (Sound fields d) b (subst (Decides (Sound fields d)) (sym e) (yes-decides (sound? fields d)))
+
+  pub found-sound : (b : Bool) → b ≡ yes? (sound? fields d) → not b ≡ false → Sound fields d
+  found-sound b e = affirmed (Sound fields d) b (subst (Decides (Sound fields d)) (sym e) (yes-decides (sound? fields d)))
