@@ -1,4 +1,4 @@
--- Laws of cards stored one after another in a list, as far as it reaches.
+-- Laws of numbers stored one after another in a list, as far as it reaches.
 -- Assumes nothing.
 use mathlib.Core.Path.{_≡_, sym, ap, _∙_}
 use mathlib.Core.List.{List, [], _∷_, _++_}
@@ -29,10 +29,16 @@ stored-padded cs n l =
     ∙ ap (λ k. cs ++ drop k (zeros n)) z
     ∙ ap (λ ds. cs ++ ds) (drop-zeros (length cs) n)
 
--- the cards before the i-th stand, and it is stored
-pub stored-more : (cs list : List ℕ) (i : ℕ) → i < length cs → set (sets list 0 (take i cs)) i (getD cs i 0) ≡ sets list 0 (take (i + 1) cs)
-stored-more cs list i h =
-    let n : i ≡ 0 + length (take i cs) = omega (arith, length-take-le i cs (omega arith)) in
-    ap (λ k. set (sets list 0 (take i cs)) k (getD cs i 0)) n
-    ∙ sym (stored-join (take i cs) (getD cs i 0 ∷ []) list 0)
-    ∙ ap (sets list 0) (sym (take-suc cs i 0 h) ∙ ap (λ k. take k cs) (sym (add-one i)))
+-- the numbers before the i-th stand from place k on, and it is stored
+pub stored-on : (ns list : List ℕ) (k i : ℕ) → i < length ns → set (sets list k (take i ns)) (k + i) (getD ns i 0) ≡ sets list k (take (i + 1) ns)
+stored-on ns list k i l =
+    let z : k + i ≡ k + length (take i ns) = omega (arith, length-take-le i ns (omega arith)) in
+    ap (λ n. set (sets list k (take i ns)) n (getD ns i 0)) z
+    ∙ sym (stored-join (take i ns) (getD ns i 0 ∷ []) list k)
+    ∙ ap (sets list k) (sym (take-suc ns i 0 l) ∙ ap (λ n. take n ns) (sym (add-one i)))
+
+-- from the first place on
+pub stored-more : (ns list : List ℕ) (i : ℕ) → i < length ns → set (sets list 0 (take i ns)) i (getD ns i 0) ≡ sets list 0 (take (i + 1) ns)
+stored-more ns list i l =
+    let z : i ≡ 0 + i = omega arith in
+    ap (λ n. set (sets list 0 (take i ns)) n (getD ns i 0)) z ∙ stored-on ns list 0 i l

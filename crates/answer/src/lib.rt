@@ -1,6 +1,8 @@
 // What every call shares: the answer it hands back, the request it is asked, and a lent list that is cleared.
 ghost use mathlib.Core.Path.{_≡_};
+ghost use Prim.Native.Nat.{_≤_};
 ghost use lib.ListN.{length};
+ghost use lib.Seq.{sets};
 ghost use Rattle.answer.specs.Answers.{refused, blank, counted, ruled, zeros};
 
 // How many fields a request has: subject, resource, action.
@@ -78,6 +80,19 @@ pub fn clear(list: &mut [u16])
     let mut i = 0;
     while i < n {
         list[i] = 0;
+        i += 1;
+    }
+}
+
+// Numbers to the start of a list that is long enough.
+pub fn store(numbers: &[u16], list: &mut [u16])
+    requires { ⌜ length (now numbers) ≤ length (now list) ⌝ }
+    ensures { λ _. ⌜ now (list .exit) ≡ sets (now (list .entry)) 0 (now (numbers .entry)) ⌝ }
+{
+    let count = numbers.len();
+    let mut i = 0;
+    while i < count {
+        list[i] = numbers[i];
         i += 1;
     }
 }

@@ -61,43 +61,50 @@ module _ (d : List ℕ) (s : Sound fields d) where
       (λ (n : SoundNode fields d p). n)
       (s .entries p (e .starts) (e .earlier))
 
+  -- the entry where f values are used up, and a field follows
+  module _ (p f : ℕ) (e : EntryBefore fields d (used d) (nextLevel fields f) p) (l : f < fields) where
+    level-here : levelAt d p ≡ f + 1
+    level-here = e .begins ∙ ap (λ b. cond b 0 (f + 1)) (ne-eqb f fields (λ z. omega arith))
+
+    pub node-here : SoundNode fields d p
+    node-here = node-there p (f + 1) (record { starts = e .starts; earlier = e .earlier; begins = level-here }) (omega arith)
+
+    pub node-whole-here : (p < mostPlaces) × (p + 2 + 2 * edgesAt d p ≤ length d)
+    node-whole-here = (
+      omega (arith, e .earlier, s .used-most),
+      omega (arith, entry-within (nextLevel fields f) p e, size-node d p (λ z. omega (arith, level-here))),
+    )
+
+    pub maximum-here : maximum d (levelAt d p - 1) ≡ maximum d f
+    maximum-here = let z : levelAt d p - 1 ≡ f = omega (arith, level-here) in ap (maximum d) z
+
+    module _ (v : ℕ) (m : v ≤ maximum d f) where
+      pub value-most : v ≤ maximum d (levelAt d p - 1)
+      value-most = omega (arith, maximum-here)
+
+      -- the child is an entry of the next level
+      pub child-here : EntryBefore fields d (used d) (nextLevel fields (f + 1)) (child d p v)
+      child-here =
+          let r = value-takes-a-real-edge fields d p v node-here value-most .entry in
+          record {
+            starts = r .starts;
+            earlier = omega (arith, r .earlier, e .earlier);
+            begins = r .begins ∙ ap (nextLevel fields) level-here;
+          }
+
   module _ (q : List ℕ) (w : Within (maximum d) q) where
     pub down-none : (p : ℕ) → p ≡ root d → Down d q p 0
     down-none p e = subst (λ (n : ℕ). Down d q n 0) (sym e) (record { rest = refl; entry = s .root-entry; few = omega arith })
 
-    module _ (p f : ℕ) (a : Down d q p f) (l : f < fields) where
-      level-here : levelAt d p ≡ f + 1
-      level-here = a .entry .begins ∙ ap (λ b. cond b 0 (f + 1)) (ne-eqb f fields (λ e. omega arith))
-
-      pub node-here : SoundNode fields d p
-      node-here = node-there p (f + 1) (record { starts = a .entry .starts; earlier = a .entry .earlier; begins = level-here }) (omega arith)
-
-      pub node-whole-here : (p < mostPlaces) × (p + 2 + 2 * edgesAt d p ≤ length d)
-      node-whole-here = (
-        omega (arith, a .entry .earlier, s .used-most),
-        omega (arith, entry-within (nextLevel fields f) p (a .entry), size-node d p (λ z. omega (arith, level-here))),
-      )
-
-      pub value-most : (v : ℕ) → v ≡ value q f → v ≤ maximum d (levelAt d p - 1)
-      value-most v e =
-          let z : f ≡ levelAt d p - 1 = omega (arith, level-here) in
-          omega (arith, w f l, ap (maximum d) z)
-
-      pub down-more : f < length q → (v c : ℕ) → v ≡ value q f → c ≡ child d p v → Down d q c (f + 1)
-      down-more g v c e i =
-          let r = value-takes-a-real-edge fields d p v node-here (value-most v e) .entry in
-          let x : drop f q ≡ v ∷ drop (f + 1) q = rw (e, add-one) (drop-cons q f 0 g) in
-          subst (λ (n : ℕ). Down d q n (f + 1)) (sym i)
-          (record {
-            rest = sym (ap (lookUp d p) x ∙ look-up-more d p v (drop (f + 1) q)) ∙ a .rest;
-            entry =
-                record {
-                  starts = r .starts;
-                  earlier = omega (arith, r .earlier, a .entry .earlier);
-                  begins = r .begins ∙ ap (nextLevel fields) level-here;
-                };
-            few = omega arith;
-          })
+    pub down-more : (p f : ℕ) → Down d q p f → f < fields → f < length q → (v c : ℕ) → v ≡ value q f → c ≡ child d p v → Down d q c (f + 1)
+    down-more p f a l g v c e i =
+        let x : drop f q ≡ v ∷ drop (f + 1) q = rw (e, add-one) (drop-cons q f 0 g) in
+        subst (λ (n : ℕ). Down d q n (f + 1)) (sym i)
+        (record {
+          rest = sym (ap (lookUp d p) x ∙ look-up-more d p v (drop (f + 1) q)) ∙ a .rest;
+          entry = child-here p f (a .entry) l v (omega (arith, w f l));
+          few = omega arith;
+        })
 
     pub landed : (p f : ℕ) → Down d q p f → fields ≤ f → length q ≡ fields → Landed d q p
     landed p f a h n =

@@ -17,9 +17,9 @@ use Rattle.diagram.specs.Walk.{Entries, joined, same, Entered, enter, ex
 use Rattle.diagram.specs.Decided.{either}
 use Rattle.diagram.proofs.EntryPlaces.{EntryAt, Begins, begins-itself, begins-on}
 
--- entries that test as equal are equal
+-- entries that test as equal are equal, and the other way round
 
-same-equal : (x y : List ℕ) → same x y ≡ true → x ≡ y
+pub same-equal : (x y : List ℕ) → same x y ≡ true → x ≡ y
 same-equal [] [] e = refl
 same-equal [] (y ∷ ys) e = absurd (false≢true e)
 same-equal (x ∷ xs) [] e = absurd (false≢true e)
@@ -27,7 +27,7 @@ same-equal (x ∷ xs) (y ∷ ys) e =
     let h = both (eqb x y) (same xs ys) e in
     ap (λ n. n ∷ xs) (eqb-true x y (h .0)) ∙ ap (λ l. y ∷ l) (same-equal xs ys (h .1))
 
-same-itself : (x : List ℕ) → same x x ≡ true
+pub same-itself : (x : List ℕ) → same x x ≡ true
 same-itself [] = refl
 same-itself (n ∷ x) = ap (λ b. b && same x x) (eq-eqb n n refl) ∙ same-itself x
 
@@ -42,16 +42,16 @@ after x r = kept (x ∷ r .entries) (r .place)
 module _ (e : List ℕ) where
   -- the first entry is equal, or it is not
 
-  enter-here : (p : ℕ) (x : List ℕ) (xs : Entries) → same x e ≡ true → enter p (x ∷ xs) e ≡ kept (x ∷ xs) p
+  pub enter-here : (p : ℕ) (x : List ℕ) (xs : Entries) → same x e ≡ true → enter p (x ∷ xs) e ≡ kept (x ∷ xs) p
   unfolding enter
   enter-here p x xs t = ap (λ b. cond b (kept (x ∷ xs) p) (after x (enter (p + length x) xs e))) t
 
-  enter-there : (p : ℕ) (x : List ℕ) (xs : Entries) → same x e ≡ false → enter p (x ∷ xs) e ≡ after x (enter (p + length x) xs e)
+  pub enter-there : (p : ℕ) (x : List ℕ) (xs : Entries) → same x e ≡ false → enter p (x ∷ xs) e ≡ after x (enter (p + length x) xs e)
   unfolding enter
   enter-there p x xs t = ap (λ b. cond b (kept (x ∷ xs) p) (after x (enter (p + length x) xs e))) t
 
   -- what holds of the entering where the first entry is equal, and of one entry more where it is not, holds of every entering
-  by-entering : (P : ℕ → Entries → Entered → Type 0) →
+  pub by-entering : (P : ℕ → Entries → Entered → Type 0) →
       ((p : ℕ) → P p [] (kept (e ∷ []) p)) →
       ((p : ℕ) (x : List ℕ) (xs : Entries) → same x e ≡ true → P p (x ∷ xs) (kept (x ∷ xs) p)) →
       ((p : ℕ) (x : List ℕ) (xs : Entries) (r : Entered) → same x e ≡ false → P (p + length x) xs r → P p (x ∷ xs) (after x r)) →

@@ -1,4 +1,4 @@
--- Diagrams and answers of document 01 computed from the definitions: an empty root's diagram, T's, requests looked up in it, unsound slices.
+-- T's diagram and answers of document 01 computed from the definitions: requests looked up in it, unsound slices.
 -- Assumes nothing.
 use mathlib.Core.Path.{_≡_, refl}
 use mathlib.Core.Bool.{true}
@@ -23,18 +23,6 @@ gives decision cards = record { decision = decision; cards = cards }
 -- "none", with no card
 abbrev none : Ruling
 none = gives 0 []
-
--- "An empty root: none everywhere; 20 places, root at 16."
-pub empty-root :
-    diagram (2 ∷ 1 ∷ 1 ∷ []) (λ q. none)
-    ≡ 20 ∷ 16 ∷ 2 ∷ 1 ∷ 1
-    ∷ 0 ∷ 0 ∷ 0
-    ∷ 3 ∷ 1 ∷ 1 ∷ 5
-    ∷ 2 ∷ 1 ∷ 1 ∷ 8
-    ∷ 1 ∷ 1 ∷ 2 ∷ 12
-    ∷ []
-unfolding diagram walk enter extend below terminal node
-empty-root = refl
 
 -- the rulings of T, in rising order of the requests
 abbrev listedT : List Ruling

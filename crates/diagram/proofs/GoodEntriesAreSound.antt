@@ -22,7 +22,7 @@ use Rattle.diagram.proofs.GoodEntries.{Points, GoodTerminal, GoodNode, 
 
 -- a terminal takes as many places, and is as sound, as its ruling says
 module _ (d : List ℕ) (p : ℕ) (r : Ruling) (s : Stands d p (terminal r)) where
-  terminal-size : sizeAt d p ≡ length (terminal r)
+  pub terminal-size : sizeAt d p ≡ length (terminal r)
   unfolding terminal
   terminal-size = omega (arith, size-terminal d p (terminal-level d p r s), terminal-count d p r s)
 
@@ -40,7 +40,7 @@ module _ (d : List ℕ) (p : ℕ) (r : Ruling) (s : Stands d p (terminal r)) whe
   }
 
 -- a node takes as many places as its edges say
-node-size : (d : List ℕ) (p level : ℕ) (es : List Edge) → 1 ≤ level → Stands d p (node level es) → sizeAt d p ≡ length (node level es)
+pub node-size : (d : List ℕ) (p level : ℕ) (es : List Edge) → 1 ≤ level → Stands d p (node level es) → sizeAt d p ≡ length (node level es)
 unfolding node
 node-size d p level es l s =
     omega (arith, size-node d p (λ z. omega (arith, node-level d p level es s)), node-edges d p level es s, edge-numbers-length es)

@@ -12,6 +12,7 @@ pub mod LookUpGivesTheRuling
 pub mod DiagramGoesByRulingsWithin
 pub mod EqualExactlyWhenAlike
 pub mod WalkingAgainAddsNothing
+pub mod OneRulingForAll
 pub mod GoodEntries
 pub mod GoodEntriesAreSound
 pub mod DiagramIsSound

@@ -21,13 +21,13 @@ within-length [] (v ∷ q) w = absurd w
 within-length (m ∷ ms) [] w = absurd w
 within-length (m ∷ ms) (v ∷ q) w = omega (arith, within-length ms q (w .1))
 
-within-each : (ms q : List ℕ) → WithinMaxima ms q → (i : ℕ) → i < length ms → value q i ≤ getD ms i 0
+pub within-each : (ms q : List ℕ) → WithinMaxima ms q → (i : ℕ) → i < length ms → value q i ≤ getD ms i 0
 within-each [] q w i l = absurd (omega arith)
 within-each (m ∷ ms) [] w i l = absurd w
 within-each (m ∷ ms) (v ∷ q) w zero l = w .0
 within-each (m ∷ ms) (v ∷ q) w (suc i) l = within-each ms q (w .1) i (omega arith)
 
-each-within : (ms q : List ℕ) → length q ≡ length ms → ((i : ℕ) → i < length ms → value q i ≤ getD ms i 0) → WithinMaxima ms q
+pub each-within : (ms q : List ℕ) → length q ≡ length ms → ((i : ℕ) → i < length ms → value q i ≤ getD ms i 0) → WithinMaxima ms q
 each-within [] [] e h = tt
 each-within [] (v ∷ q) e h = absurd (omega arith)
 each-within (m ∷ ms) [] e h = absurd (omega arith)

@@ -1,4 +1,6 @@
 // The format of a decision diagram.
+pub mod layout;
+
 use answer::FIELDS;
 
 // Where entries start: after the places used, the place of the root and the maxima.

@@ -7,8 +7,8 @@ use Prim.Native.Nat.{ℕ, zero, suc, _+_, _-_, _≤_, _<_}
 use native.Mathlib.Omega.{arith}
 use native.Mathlib.Nat.{eq-or-lt-of-le}
 use native.Mathlib.Numerals.{add-one}
-use Rattle.diagram.specs.Layout.{maximum, levelAt, edgesAt, lastAt, childAt}
-use Rattle.diagram.specs.LookUp.{child}
+use Rattle.diagram.specs.Layout.{maximum, levelAt, edgesAt, lastAt}
+use Rattle.diagram.specs.LookUp.{edge}
 use Rattle.diagram.specs.Sound.{SoundNode}
 use Rattle.diagram.proofs.FirstEdge.{edge-is}
 
@@ -24,15 +24,16 @@ module _ (d : List ℕ) (p v : ℕ) where
   halved-down low high middle last a g h e l =
       record { passed = a .passed; reached = omega arith; order = g; real = omega (arith, a .real) }
 
-  pub halved-one : (low high : ℕ) → Halved d p v low high → high ≤ low → childAt d p low ≡ child d p v
+  pub halved-one : (low high : ℕ) → Halved d p v low high → high ≤ low → (low ≡ edge d p v) × (low < edgesAt d p)
   halved-one low high a h =
-      let e : high ≡ low = omega (arith, a .order) in
-      sym (ap (childAt d p)
-      (edge-is d p v low (omega (arith, a .real, a .order)) (a .passed) (λ l. subst (λ (n : ℕ). v ≤ lastAt d p n) e (a .reached))))
+      let e : high ≡ low = omega (arith, a .order) in (
+        sym (edge-is d p v low (omega (arith, a .real, a .order)) (a .passed) (λ l. subst (λ (n : ℕ). v ≤ lastAt d p n) e (a .reached))),
+        omega (arith, a .real, a .order),
+      )
 
 module _ (k : ℕ) (d : List ℕ) (p v : ℕ) (s : SoundNode k d p) where
   -- a later edge ends later
-  last-rises : (i j : ℕ) → i ≤ j → j < edgesAt d p → lastAt d p i ≤ lastAt d p j
+  pub last-rises : (i j : ℕ) → i ≤ j → j < edgesAt d p → lastAt d p i ≤ lastAt d p j
   last-rises i zero h g = let e : 0 ≡ i = omega arith in subst (λ (n : ℕ). lastAt d p n ≤ lastAt d p 0) e (omega arith)
   last-rises i (suc j) h g =
       ⊎-elim

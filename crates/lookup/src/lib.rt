@@ -3,15 +3,15 @@ use answer::Answer;
 use answer::FIELDS;
 use answer::Request;
 use answer::clear;
+use answer::store;
 use soundness::is_sound;
 ghost use mathlib.Core.Path.{_≡_};
 ghost use Prim.Native.Nat.{_+_, _*_, _-_, _≤_, _<_};
 ghost use lib.ListN.{length};
-ghost use lib.Seq.{sets};
 ghost use Rattle.answer.specs.Fields.{fields};
 ghost use Rattle.answer.specs.Requests.{Within, fieldFault};
 ghost use Rattle.diagram.specs.Layout.{header, mostPlaces, maximum, levelAt, edgesAt};
-ghost use Rattle.diagram.specs.LookUp.{child};
+ghost use Rattle.diagram.specs.LookUp.{edge, child};
 ghost use Rattle.diagram.specs.Sound.{SoundNode, Sound};
 ghost use Rattle.diagram.specs.Landed.{Landed};
 ghost use Rattle.diagram.specs.LookedUp.{lookedUp, lookedUpList};
@@ -31,12 +31,12 @@ fn field_fault(diagram: &[u16], values: &[u16; FIELDS]) -> usize
     FIELDS
 }
 
-// The child for a value of the sound node at a place. Last values rise, so the edge is found by halving.
-fn child_of(diagram: &[u16], place: usize, value: u16) -> usize
+// The edge of a value at the sound node at a place. Last values rise, so it is found by halving.
+pub fn edge_of(diagram: &[u16], place: usize, value: u16) -> usize
     requires { ⌜ (place < mostPlaces) × (place + 2 + 2 * edgesAt (now diagram) place ≤ length (now diagram)) ⌝ }
     requires { ⌜ SoundNode fields (now diagram) place ⌝ }
     requires { ⌜ value ≤ maximum (now diagram) (levelAt (now diagram) place - 1) ⌝ }
-    ensures { λ r. ⌜ (r ≡ child (now (diagram .entry)) place value) × (r < 65536) ⌝ }
+    ensures { λ r. ⌜ (r ≡ edge (now (diagram .entry)) place value) × (r < edgesAt (now (diagram .entry)) place) ⌝ }
 {
     let mut low: usize = 0;
     let mut high: usize = diagram[place + 1] as usize - 1;
@@ -48,7 +48,18 @@ fn child_of(diagram: &[u16], place: usize, value: u16) -> usize
             high = middle;
         }
     }
-    diagram[place + 3 + 2 * low] as usize
+    low
+}
+
+// The child for a value of the sound node at a place.
+fn child_of(diagram: &[u16], place: usize, value: u16) -> usize
+    requires { ⌜ (place < mostPlaces) × (place + 2 + 2 * edgesAt (now diagram) place ≤ length (now diagram)) ⌝ }
+    requires { ⌜ SoundNode fields (now diagram) place ⌝ }
+    requires { ⌜ value ≤ maximum (now diagram) (levelAt (now diagram) place - 1) ⌝ }
+    ensures { λ r. ⌜ (r ≡ child (now (diagram .entry)) place value) × (r < 65536) ⌝ }
+{
+    let edge = edge_of(diagram, place, value);
+    diagram[place + 3 + 2 * edge] as usize
 }
 
 // The place of the terminal that the values reach from the root of a sound diagram.
@@ -64,19 +75,6 @@ fn descend(diagram: &[u16], values: [u16; FIELDS]) -> usize
         field += 1;
     }
     place
-}
-
-// Cards to the start of a list that is long enough.
-fn store(cards: &[u16], list: &mut [u16])
-    requires { ⌜ length (now cards) ≤ length (now list) ⌝ }
-    ensures { λ _. ⌜ now (list .exit) ≡ sets (now (list .entry)) 0 (now (cards .entry)) ⌝ }
-{
-    let count = cards.len();
-    let mut i = 0;
-    while i < count {
-        list[i] = cards[i];
-        i += 1;
-    }
 }
 
 // Rules on a request by a diagram: the decision, and in the list the terminal's cards, with zeros after them.

@@ -23,7 +23,7 @@ module _ (a : ℕ → Bool) (t : List ℕ) (w : WellFormed t) where
       (λ (h : 4 ≤ kind t 0). absurd (omega (arith, w .rules 0 (w .some) h, w .root)))
       (lt-or-ge (kind t 0) 4)
 
-  few-cards : length (cards a t) ≤ 127
+  pub few-cards : length (cards a t) ≤ 127
   few-cards =
       ⊎-elim
       (λ (l : 1 < count t).

@@ -11,13 +11,8 @@ use native.Mathlib.Omega.{arith}
 use lib.ListN.{getD, length, length-append}
 use lib.Seq.{getD-at}
 use Rattle.table.specs.Layout.{count, card}
-use Rattle.ruling.specs.Meaning.{matches, cardsFrom, cards}
+use Rattle.ruling.specs.Meaning.{matches, cardsFrom, cards, matching}
 use Rattle.ruling.proofs.Cards.{cards-none, cards-more, cards-join}
-
--- how many rules match among the nodes below n
-abbrev pub matching : (ℕ → Bool) → List ℕ → ℕ → ℕ
-matching a t zero = 0
-matching a t (suc n) = cond (matches a t n) (suc (matching a t n)) (matching a t n)
 
 -- Place k of the cards is that of a rule that matches, before which k rules match.
 pub record Origin (a : ℕ → Bool) (t : List ℕ) (n k : ℕ) : Type 0 where

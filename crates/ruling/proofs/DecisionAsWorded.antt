@@ -4,7 +4,7 @@
 use mathlib.Core.Path.{_≡_, refl, sym, ap, _∙_}
 use mathlib.Core.Bool.{Bool, true, false, cond, true≢false}
 use mathlib.Core.Logic.{⊎-elim}
-use mathlib.Core.List.{List, [], _∷_}
+use mathlib.Core.List.{List, _∷_}
 use Prim.Native.Nat.{ℕ, zero, suc, _+_, _-_, _≤_, _<_}
 use native.Mathlib.Omega.{arith}
 use borrow.Author.Tests.{le-leb, lt-leb}
@@ -16,27 +16,15 @@ use Rattle.table.specs.Tree.{endOf, isRule}
 use Rattle.table.specs.Reading.{Accepted}
 use Rattle.table.specs.WellFormed.{WellFormed}
 use Rattle.table.proofs.AcceptedIsWellFormed.{well-formed}
-use Rattle.ruling.specs.Forest.{Forest, empty, node, forestWithin, under}
+use Rattle.ruling.specs.Forest.{forestWithin, under}
 use Rattle.ruling.specs.Targets.{targetHolds, applies}
 use Rattle.ruling.specs.Meaning.{effect, gives, decisions, decision}
+use Rattle.ruling.specs.AsWorded.{givesAsWorded, decisionsAsWorded, decisionAsWorded}
 use Rattle.ruling.specs.Walk.{Whole}
 use Rattle.ruling.proofs.Forest.{within-none, within-more, whole-under, whole-after}
 use Rattle.ruling.proofs.Applies.{applies-each, applies-down}
 use Rattle.ruling.proofs.Decisions.{decisions-list, gives-not, gives-rule, gives-group}
 use Rattle.ruling.proofs.LevelByLevel.{level-by-level}
-
--- "A matching rule gives its effect, any other rule none. A group whose target fails gives none. Otherwise a group asks its children",
--- which give ds
-abbrev pub givesAsWorded : List ℕ → List ℕ → ℕ → List ℕ → ℕ
-givesAsWorded t q i ds =
-    cond (isRule t i)
-    (cond (applies t q i) (effect (kind t i)) notApplicable)
-    (cond (targetHolds t q i) (way (kind t i) ds) notApplicable)
-
--- "a child that is a group asks its own in turn"
-abbrev pub decisionsAsWorded : List ℕ → List ℕ → Forest → List ℕ
-decisionsAsWorded t q empty = []
-decisionsAsWorded t q (node i below after) = givesAsWorded t q i (decisionsAsWorded t q below) ∷ decisionsAsWorded t q after
 
 module _ (t q : List ℕ) (w : WellFormed t) where
   abbrev a : ℕ → Bool
@@ -100,7 +88,7 @@ module _ (t q : List ℕ) (w : WellFormed t) where
 
 -- the decision of every node of an accepted table
 pub decision-as-worded : (t q : List ℕ) → Accepted t → (i : ℕ) → i < count t →
-    givesAsWorded t q i (decisionsAsWorded t q (under t i)) ≡ decision (applies t q) t i
+    decisionAsWorded t q i ≡ decision (applies t q) t i
 decision-as-worded t q c i l =
     let w = well-formed t c in
     let n = endOf t i - (i + 1) in

@@ -14,7 +14,7 @@ use Rattle.answer.specs.declared.Answer.{Answer}
 use Rattle.answer.proofs.RequestOutcome.{RequestOutcome, outcome-blank, request-outcome, within-ruled}
 use Rattle.table.specs.Layout.{maximum}
 use Rattle.table.specs.Reading.{reading, Accepted}
-use Rattle.table.proofs.FirstRefusal.{FirstRefusal, whole, node, none, first-refusal, number-accepted, accepted-reading}
+use Rattle.table.proofs.FirstRefusal.{FirstRefusal, first-refusal, first-blank, number-accepted, accepted-reading}
 use Rattle.ruling.specs.Ruling.{groups, ruling, ruledList}
 use Rattle.ruling.proofs.Outcome.{shows, unread, was-read}
 
@@ -37,13 +37,8 @@ module _ (t q : List ℕ) (n : ℕ) where
 
   -- "A refusal has decision 0, count 0, the place below, and zeros in the whole lent list"
 
-  table-blank : (a : Answer) → FirstRefusal t a → 0 < a .number → (a .decision ≡ 0) × (a .count ≡ 0)
-  table-blank a (whole z) l = (refl, refl)
-  table-blank a (node i h c b z) l = (refl, refl)
-  table-blank a (none h b) l = absurd (omega arith)
-
   blank : (a : Answer) (list : List ℕ) → RefusalOrRuling t q n a list → 0 < a .number → ((a .decision ≡ 0) × (a .count ≡ 0)) × (list ≡ zeros n)
-  blank a list (by-table r z) l = (table-blank a r l, refl)
+  blank a list (by-table r z) l = (first-blank t a r l, refl)
   blank a list (by-request c o) l = outcome-blank (maximum t) q (groups t q) n a list o l
 
   pub refusal-blank : 0 < ruling t q n .number →

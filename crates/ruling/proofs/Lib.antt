@@ -14,4 +14,5 @@ pub mod RulingGoesByWhichApply
 pub mod FirstRefusalOrRuling
 pub mod DecisionIsOneOfFour
 pub mod AtMost127Cards
+pub mod NoCardIsZero
 pub mod DecisionAsWorded

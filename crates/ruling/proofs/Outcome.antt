@@ -3,7 +3,7 @@
 use mathlib.Core.Path.{_≡_, refl, sym, ap, _∙_}
 use mathlib.Core.Bool.{cond}
 use mathlib.Core.List.{List}
-use Prim.Native.Nat.{ℕ, _-_, _≤_, _<_}
+use Prim.Native.Nat.{ℕ, _≤_, _<_}
 use native.Mathlib.Omega.{arith}
 use borrow.Author.Tests.{eq-eqb, ne-eqb}
 use lib.ListN.{length}
@@ -15,15 +15,12 @@ use Rattle.answer.specs.Rulings.{answered, listed}
 use Rattle.answer.specs.declared.Answer.{Answer}
 use Rattle.answer.proofs.Settling.{refuses, request-over, list-short, list-long}
 use Rattle.answer.proofs.Stored.{stored-padded}
-use Rattle.table.specs.Layout.{count, maximum}
+use Rattle.table.specs.Layout.{maximum}
 use Rattle.table.specs.Reading.{reading}
 use Rattle.table.specs.WellFormed.{WellFormed}
-use Rattle.table.proofs.FirstRefusal.{number-accepted, accepted-reading}
+use Rattle.table.proofs.FirstRefusal.{number-accepted}
 use Rattle.table.proofs.AcceptedIsWellFormed.{well-formed}
-use Rattle.ruling.specs.Targets.{applies}
-use Rattle.ruling.specs.Meaning.{decision, cardsFrom}
 use Rattle.ruling.specs.Ruling.{groups, ruling, ruledList}
-use Rattle.ruling.specs.Walk.{cardsBetween, Gathered}
 
 module _ (t : List ℕ) (a : Answer) (e : a ≡ reading t) (z : a .number ≡ 0) where
   -- what a reading with number 0 tells
@@ -33,9 +30,6 @@ module _ (t : List ℕ) (a : Answer) (e : a ≡ reading t) (z : a .number ≡ 0)
 
   pub read-formed : WellFormed t
   read-formed = well-formed t (number-accepted t read-zero)
-
-  pub read-count : a .count ≡ count t
-  read-count = ap (λ x. x .count) (e ∙ accepted-reading t (number-accepted t read-zero))
 
 module _ (t q : List ℕ) (n : ℕ) where
   -- the list shows the groups' cards
@@ -75,22 +69,13 @@ module _ (t q : List ℕ) (n : ℕ) where
           a ≡ ruled d k → list ≡ padded (groups t q .cards) n → Settled a list
       long-list = list-long (maximum t) q (groups t q) n (ruling t q n) (ruledList t q n) was-read shows w
 
-    -- after the walk over all nodes, which end at the count
-    module _ (f : ℕ) (ef : f ≡ fieldFault (maximum t) q) (w : fields ≤ f) (end : ℕ) (ee : end ≡ count t) where
-      all-cards : cardsBetween t q 0 end ≡ groups t q .cards
-      all-cards = let z : end - 0 ≡ count t = omega arith in ap (cardsFrom (applies t q) t 0) z
+    -- after all cards were counted
+    module _ (f : ℕ) (ef : f ≡ fieldFault (maximum t) q) (w : fields ≤ f) (k : ℕ) (ek : k ≡ length (groups t q .cards)) where
+      pub short : (a : Answer) (list : List ℕ) → n < k → a ≡ refused 10 0 → list ≡ zeros n → Settled a list
+      short a list l e z = short-list (omega arith) a list (omega arith) e z
 
-      all-counted : (k : ℕ) (before after : List ℕ) → Gathered t q 0 end 0 k before after → k ≡ length (groups t q .cards)
-      all-counted k before after g = omega (arith, g .number, ap length all-cards)
-
-      pub short : (a : Answer) (list before after : List ℕ) (k : ℕ) → Gathered t q 0 end 0 k before after → n < k →
-          a ≡ refused 10 0 → list ≡ zeros n → Settled a list
-      short a list before after k g l e z = short-list (omega arith) a list (omega (arith, all-counted k before after g)) e z
-
-      pub good : (a : Answer) (list before : List ℕ) (d k : ℕ) → Gathered t q 0 end 0 k before list → k ≤ n →
-          before ≡ zeros n → d ≡ decision (applies t q) t 0 → a ≡ ruled d k → Settled a list
-      good a list before d k g l z ed e =
-          let ek = all-counted k before list g in
+      pub good : (a : Answer) (list before : List ℕ) (d : ℕ) → k ≤ n → before ≡ zeros n → list ≡ sets before 0 (groups t q .cards) →
+          d ≡ groups t q .decision → a ≡ ruled d k → Settled a list
+      good a list before d l z el ed e =
           long-list (omega arith) a list d k ed ek l e
-          (g .list ∙ ap (λ u. sets u 0 (cardsBetween t q 0 end)) z ∙ ap (sets (zeros n) 0) all-cards
-          ∙ stored-padded (groups t q .cards) n (omega arith))
+          (el ∙ ap (λ u. sets u 0 (groups t q .cards)) z ∙ stored-padded (groups t q .cards) n (omega arith))

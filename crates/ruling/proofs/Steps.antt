@@ -12,6 +12,7 @@ use Rattle.table.specs.Tree.{endOf}
 use Rattle.table.specs.WellFormed.{WellFormed}
 use Rattle.ruling.specs.Targets.{targetHolds, applies}
 use Rattle.ruling.specs.Meaning.{cardsFrom}
+use Rattle.ruling.specs.Ruling.{groups}
 use Rattle.ruling.specs.Walk.{Node, Run, cardsBetween, Gathered}
 use Rattle.ruling.proofs.Forest.{whole-under, whole-after}
 use Rattle.ruling.proofs.Applies.{applies-is, applies-under, above-root, above-child, above-after}
@@ -124,3 +125,14 @@ module _ (t : List ℕ) (w : WellFormed t) (q : List ℕ) where
             ∙ sym (stored-join (cardsBetween t q i next) (cardsBetween t q next end) before k)
             ∙ ap (sets before k) (sym cs);
       }
+
+-- once all nodes were ruled
+module _ (t q : List ℕ) (end k : ℕ) (before after : List ℕ) (e : end ≡ count t) (g : Gathered t q 0 end 0 k before after) where
+  all-cards : cardsBetween t q 0 end ≡ groups t q .cards
+  all-cards = let z : end - 0 ≡ count t = omega arith in ap (cardsFrom (applies t q) t 0) z
+
+  pub all-counted : k ≡ length (groups t q .cards)
+  all-counted = omega (arith, g .number, ap length all-cards)
+
+  pub all-stored : after ≡ sets before 0 (groups t q .cards)
+  all-stored = g .list ∙ ap (sets before 0) all-cards

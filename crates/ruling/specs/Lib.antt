@@ -1,5 +1,6 @@
 pub mod Forest
 pub mod Targets
 pub mod Meaning
+pub mod AsWorded
 pub mod Ruling
 pub mod Walk

@@ -42,6 +42,11 @@ cardsFrom a t i (suc n) = cond (matches a t i) (card t i ∷ cardsFrom a t (i + 
 abbrev pub cards : (ℕ → Bool) → List ℕ → List ℕ
 cards a t = cardsFrom a t 0 (count t)
 
+-- "as count, the number of matching rules": of those among the nodes below n
+abbrev pub matching : (ℕ → Bool) → List ℕ → ℕ → ℕ
+matching a t zero = 0
+matching a t (suc n) = cond (matches a t n) (suc (matching a t n)) (matching a t n)
+
 -- the ruling of a table: the root's decision, and the cards
 abbrev pub meaning : (ℕ → Bool) → List ℕ → Ruling
 meaning a t = record { decision = decision a t 0; cards = cards a t }

@@ -5,22 +5,25 @@ use combining::Decision;
 use combining::Kind;
 use combining::Running;
 use table::layout::card_at;
+use table::layout::count_at;
 use table::layout::kind_at;
 use table::layout::span_at;
 ghost use mathlib.Core.Path.{_≡_};
 ghost use Prim.Native.Nat.{_<_};
-ghost use lib.ListN.{set};
+ghost use lib.ListN.{length, set};
+ghost use lib.Seq.{sets};
 ghost use Rattle.combining.specs.Ways.{taken};
 ghost use Rattle.table.specs.WellFormed.{WellFormed};
 ghost use Rattle.ruling.specs.Forest.{run};
 ghost use Rattle.ruling.specs.Targets.{applies};
 ghost use Rattle.ruling.specs.Meaning.{effect, decisions, decision};
+ghost use Rattle.ruling.specs.Ruling.{groups};
 ghost use Rattle.ruling.specs.Walk.{Node, Run, Gathered};
 
 // A decision, and how many cards there are so far.
-pub(crate) struct Ruled {
-    pub(crate) decision: u8,
-    pub(crate) count: usize,
+pub struct Ruled {
+    pub decision: u8,
+    pub count: usize,
 }
 
 // Stores a card at place k, where the list has that place.
@@ -106,4 +109,14 @@ fn rule_run(
             count,
         }
     }
+}
+
+// Rules by a table that was read: the cards are stored as far as the list reaches, and counted.
+pub fn rule_read(table: &[u8], values: &[u16; FIELDS], cards: &mut [u16]) -> Ruled
+    requires { ⌜ WellFormed (now table) ⌝ }
+    ensures { λ r. ⌜ (r .decision ≡ groups (now (table .entry)) (now (values .entry)) .decision) × (r .count ≡ length (groups (now (table .entry)) (now (values .entry)) .cards)) ⌝ }
+    ensures { λ _. ⌜ now (cards .exit) ≡ sets (now (cards .entry)) 0 (groups (now (table .entry)) (now (values .entry)) .cards) ⌝ }
+{
+    let count = count_at(table);
+    rule_node(table, values, 0, count, cards, 0)
 }

@@ -1,5 +1,5 @@
 // Ruling by a table's groups, with every matching card.
-mod groups;
+pub mod groups;
 mod ruling;
 mod targets;
 

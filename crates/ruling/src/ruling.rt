@@ -1,5 +1,5 @@
 // Ruling by groups: refusals 1 to 10 in order, or the decision and the cards.
-use crate::groups::rule_node;
+use crate::groups::rule_read;
 use crate::targets::field_fault;
 use answer::Answer;
 use answer::FIELDS;
@@ -25,7 +25,7 @@ pub fn rule(table: &[u8], request: Request, cards: &mut [u16]) -> Answer
     if field < FIELDS {
         return Answer::refused(9, field);
     }
-    let root = rule_node(table, &values, 0, reading.count, cards, 0);
+    let root = rule_read(table, &values, cards);
     if cards.len() < root.count {
         clear(cards);
         return Answer::refused(10, 0);

@@ -5,13 +5,8 @@ use mathlib.Core.List.{List}
 use Prim.Native.Nat.{ℕ, _+_, _≤_, _<_}
 use native.Mathlib.Omega.{arith}
 use borrow.Author.Count.{below-more}
-use lib.ListN.{length, List·getD-eq-default}
-use Rattle.diagram.specs.Layout.{numberAt, maximum, levelAt, decisionAt, countAt, cardAt}
+use Rattle.diagram.specs.Layout.{maximum, levelAt, decisionAt, countAt, cardAt}
 use Rattle.diagram.specs.Sound.{SoundTerminal}
-
--- past the end there is 0
-pub past-end : (d : List ℕ) (p : ℕ) → length d ≤ p → 0 ≡ numberAt d p
-past-end d p h = sym (List·getD-eq-default d 0 h)
 
 module _ (d : List ℕ) (p : ℕ) where
   -- the cards before the i-th are not 0

@@ -1,10 +1,8 @@
 // Whether a slice is a sound diagram: one pass, linear in the places used.
-mod layout;
-
 use answer::FIELDS;
 use diagram::HEADER;
 use diagram::MOST_PLACES;
-use layout::size_at;
+use diagram::layout::size_at;
 ghost use mathlib.Core.Path.{_≡_};
 ghost use Prim.Native.Nat.{ℕ, _+_, _*_, _≤_, _<_};
 ghost use lib.ListN.{length};

@@ -41,6 +41,12 @@ module _ (t : List ℕ) where
       (λ (z : 0 < headerFault t). rw (read-header t (λ q. omega arith)) (whole z))
       (eq-zero-or-pos (headerFault t))
 
+  -- "A refusal has decision 0, count 0"
+  pub first-blank : (a : Answer) → FirstRefusal t a → 0 < a .number → (a .decision ≡ 0) × (a .count ≡ 0)
+  first-blank a (whole z) l = (refl, refl)
+  first-blank a (node i h c b z) l = (refl, refl)
+  first-blank a (none h b) l = absurd (omega arith)
+
   passes : (a : Answer) → FirstRefusal t a → a .number ≡ 0 → Accepted t
   passes a (whole z) e = absurd (omega arith)
   passes a (node i h l b z) e = absurd (omega arith)

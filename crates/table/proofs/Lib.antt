@@ -9,3 +9,4 @@ pub mod Pass
 pub mod FirstRefusal
 pub mod AcceptedIsWellFormed
 pub mod ParentsAndSpansAgree
+pub mod Maxima

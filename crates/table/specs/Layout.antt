@@ -1,13 +1,17 @@
 -- The bytes of a table, as document 01 lays them out under "The table".
 -- Assumes nothing: these are definitions.
 use mathlib.Core.List.{List}
-use Prim.Native.Nat.{ℕ, _+_, _*_}
-use lib.ListN.{getD}
+use Prim.Native.Nat.{ℕ, _+_, _*_, _<_}
+use lib.ListN.{getD, take, drop}
 use Rattle.answer.specs.Fields.{fields}
 
 -- the byte at a place
 abbrev pub byte : List ℕ → ℕ → ℕ
 byte t p = getD t p 0
+
+-- "Bytes": the numbers of a table are below 256. A lent table's are, by its type; a claim about lists of numbers names it where it matters.
+abbrev pub Bytes : List ℕ → Type 0
+Bytes t = (p : ℕ) → byte t p < 256
 
 -- "numbers of two bytes are big-endian"
 unfoldable pub word : List ℕ → ℕ → ℕ
@@ -24,6 +28,10 @@ version t = byte t 2
 -- "3, 4, 5: largest value of who, where, deed": the maximum of field f
 abbrev pub maximum : List ℕ → ℕ → ℕ
 maximum t f = byte t (3 + f)
+
+-- "3, 4, 5: largest value of who, where, deed": all of them, in field order
+abbrev pub maxima : List ℕ → List ℕ
+maxima t = take fields (drop 3 t)
 
 -- "6-7: number of nodes", after the maxima
 abbrev pub count : List ℕ → ℕ

@@ -1,119 +1,42 @@
--- `lookup::child_of` meets its contract: the edge lies from `low` up to `high`.
+-- `lookup::child_of` meets its contract: it reads the child of the edge found.
 -- Assumes nothing.
-use mathlib.Core.Path.{refl}
-use Prim.Native.Nat.{_+_, _*_, _-_}
+use mathlib.Core.Path.{ap}
+use Prim.Native.Nat.{_+_, _*_}
 use native.Mathlib.Omega.{arith}
 use borrow.Author.Needs.{needs}
-use Rattle.answer.specs.Fields.{fields}
-use Rattle.lookup.proofs.Halving.{Halved, halved-all, halved-up, halved-down, halved-one}
+use Rattle.diagram.specs.Layout.{childAt}
 use Rattle.lookup.proofs.child_of.Statement.{statement}
 use Rattle.lookup.proofs.child_of.Tie as tie
 
-abbrev Inv-loop : tie.InvT-loop
-Inv-loop diagram place value low₀ high₀ low high = Halved diagram place value low high
+edge-of-requires : tie.Need-edge-of-requires
+edge-of-requires c κs = search needs
 
-abbrev μ-loop : tie.MeasureT-loop
-μ-loop diagram place value low₀ high₀ low high = high - low
-
-add-high : tie.Need-add-high Inv-loop μ-loop
-add-high c = search needs
-
-mul-high : tie.Need-mul-high Inv-loop μ-loop
-mul-high c = search needs
-
-shared-slice-read-high : tie.Need-shared-slice-read-high Inv-loop μ-loop
-shared-slice-read-high c = search needs
-
-cast-high : tie.Need-cast-high Inv-loop μ-loop
-cast-high c = search needs
-
-sub-high : tie.Need-sub-high Inv-loop μ-loop
-sub-high c = omega (arith, c .before .pre .1 .0 .some-edge)
-
-loop-holds : tie.Need-loop-holds Inv-loop μ-loop
-loop-holds c = halved-all fields (c .before .args .diagram .now) (c .before .args .place) (c .before .args .value) (c .before .pre .1 .0) _ (c .before .pre .1 .1) refl
-
-sub-middle : tie.Need-sub-middle Inv-loop μ-loop
-sub-middle c = search needs
-
-add-middle : tie.Need-add-middle Inv-loop μ-loop
-add-middle c = search needs
-
-add-if1 : tie.Need-add-if1 Inv-loop μ-loop
-add-if1 c = search needs
-
-mul-if1 : tie.Need-mul-if1 Inv-loop μ-loop
-mul-if1 c = search needs
-
-add-if1-2 : tie.Need-add-if1-2 Inv-loop μ-loop
-add-if1-2 c = search needs
-
-mul-if1-2 : tie.Need-mul-if1-2 Inv-loop μ-loop
-mul-if1-2 c = search needs
-
-shared-slice-read-if1 : tie.Need-shared-slice-read-if1 Inv-loop μ-loop
-shared-slice-read-if1 c = search needs
-
-add-low : tie.Need-add-low Inv-loop μ-loop
-add-low c = search needs
-
-loop-less : tie.Need-loop-less Inv-loop μ-loop
-loop-less c = search needs
-
-loop-again : tie.Need-loop-again Inv-loop μ-loop
-loop-again c = halved-up fields (c .before .before .before .before .before .args .diagram .now) (c .before .before .before .before .before .args .place) (c .before .before .before .before .before .args .value) (c .before .before .before .before .before .pre .1 .0) (c .before .before .before .loop .low) (c .before .before .before .loop .high) _ _ (c .before .before .before .loop .inv) (omega arith) refl (c .if1 .taken)
-
-loop-less-2 : tie.Need-loop-less-2 Inv-loop μ-loop
-loop-less-2 c = search needs
-
-loop-again-2 : tie.Need-loop-again-2 Inv-loop μ-loop
-loop-again-2 c = halved-down (c .before .before .before .before .before .args .diagram .now) (c .before .before .before .before .before .args .place) (c .before .before .before .before .before .args .value) (c .before .before .before .loop .low) (c .before .before .before .loop .high) _ _ (c .before .before .before .loop .inv) (omega arith) (omega arith) refl (c .if1 .left)
-
-add-result : tie.Need-add-result Inv-loop μ-loop
+add-result : tie.Need-add-result
 add-result c = search needs
 
-mul-result : tie.Need-mul-result Inv-loop μ-loop
+mul-result : tie.Need-mul-result
 mul-result c = search needs
 
-add-result-2 : tie.Need-add-result-2 Inv-loop μ-loop
+add-result-2 : tie.Need-add-result-2
 add-result-2 c = search needs
 
-mul-result-2 : tie.Need-mul-result-2 Inv-loop μ-loop
+mul-result-2 : tie.Need-mul-result-2
 mul-result-2 c = search needs
 
-shared-slice-read-result : tie.Need-shared-slice-read-result Inv-loop μ-loop
+shared-slice-read-result : tie.Need-shared-slice-read-result
 shared-slice-read-result c = search needs
 
-cast-result : tie.Need-cast-result Inv-loop μ-loop
-cast-result c = omega (arith, c .shared-slice-known3 .given (c .before .before .before .before .args .place + 3 + 2 * c .before .before .loop .low))
+cast-result : tie.Need-cast-result
+cast-result c = omega (arith, c .shared-slice-known2 .given (c .before .before .before .args .place + 3 + 2 * c .before .edge-of .result))
 
-returns : tie.Need-returns Inv-loop μ-loop
-returns c = (halved-one (c .before .before .before .before .args .diagram .now) (c .before .before .before .before .args .place) (c .before .before .before .before .args .value) (c .before .before .loop .low) (c .before .before .loop .high) (c .before .before .loop .inv) (c .before .loop-test .left), omega (arith, c .shared-slice-known3 .given (c .before .before .before .before .args .place + 3 + 2 * c .before .before .loop .low)))
+returns : tie.Need-returns
+returns c = (ap (childAt (c .before .before .before .args .diagram .now) (c .before .before .before .args .place)) (c .before .edge-of .ensures .0), omega (arith, c .shared-slice-known2 .given (c .before .before .before .args .place + 3 + 2 * c .before .edge-of .result)))
 
 pub child-of-spec : {M : Type 1} → statement M
 child-of-spec =
     tie.close
     (tie.spec
-    Inv-loop
-    μ-loop
-    add-high
-    mul-high
-    shared-slice-read-high
-    cast-high
-    sub-high
-    loop-holds
-    sub-middle
-    add-middle
-    add-if1
-    mul-if1
-    add-if1-2
-    mul-if1-2
-    shared-slice-read-if1
-    add-low
-    loop-less
-    loop-again
-    loop-less-2
-    loop-again-2
+    edge-of-requires
     add-result
     mul-result
     add-result-2

@@ -34,7 +34,14 @@ array-read-child-of : tie.Need-array-read-child-of Inv-loop μ-loop
 array-read-child-of c = search needs
 
 child-of-requires : tie.Need-child-of-requires Inv-loop μ-loop
-child-of-requires c κs = (node-whole-here (c .before .before .before .before .args .diagram .now) (c .before .before .before .before .pre .0) (c .before .before .before .before .args .t2) (c .before .before .before .before .pre .1) (c .before .loop .place) (c .before .loop .field) (c .before .loop .inv) (c .loop-test .taken), (node-here (c .before .before .before .before .args .diagram .now) (c .before .before .before .before .pre .0) (c .before .before .before .before .args .t2) (c .before .before .before .before .pre .1) (c .before .loop .place) (c .before .loop .field) (c .before .loop .inv) (c .loop-test .taken), value-most (c .before .before .before .before .args .diagram .now) (c .before .before .before .before .pre .0) (c .before .before .before .before .args .t2) (c .before .before .before .before .pre .1) (c .before .loop .place) (c .before .loop .field) (c .before .loop .inv) (c .loop-test .taken) _ refl))
+child-of-requires c κs =
+    let d = c .before .before .before .before .args .diagram .now in
+    let s = c .before .before .before .before .pre .0 in
+    let p = c .before .loop .place in
+    let f = c .before .loop .field in
+    let e = c .before .loop .inv .entry in
+    let l = c .loop-test .taken in
+    (node-whole-here d s p f e l, (node-here d s p f e l, value-most d s p f e l _ (c .before .before .before .before .pre .1 f l)))
 
 add-field : tie.Need-add-field Inv-loop μ-loop
 add-field c = search needs

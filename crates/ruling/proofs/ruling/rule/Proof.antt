@@ -5,10 +5,9 @@ use native.Mathlib.Omega.{arith}
 use borrow.Author.Needs.{needs}
 use lib.ListN.{length}
 use Rattle.answer.specs.Answers.{zeros}
-use Rattle.ruling.proofs.Outcome.{read-zero, read-formed, read-count, unread, over, short, good}
-use Rattle.ruling.proofs.Steps.{root}
-use Rattle.ruling.proofs.ruling.rule.Tie as tie
+use Rattle.ruling.proofs.Outcome.{read-zero, read-formed, unread, over, short, good}
 use Rattle.ruling.proofs.ruling.rule.Statement.{statement}
+use Rattle.ruling.proofs.ruling.rule.Tie as tie
 
 clear-requires : tie.Need-clear-requires
 clear-requires c κs = search needs
@@ -25,7 +24,8 @@ returns c =
     unread (s .table .now) (s .request .values) (length (s .cards .now)) (c .before .before .read .result) (c .before .before .before .before .before .clear .last .0) (c .before .before .read .ensures) (c .if1 .taken) (c .before .before .before .before .before .clear .ensures)
 
 field-fault-requires : tie.Need-field-fault-requires
-field-fault-requires c κs = omega (arith, read-formed (c .before .before .before .before .before .before .before .before .before .before .before .args .table .now) (c .before .before .before .before .read .result) (c .before .before .before .before .read .ensures) (c .before .before .if1 .left) .records)
+field-fault-requires c κs =
+    omega (arith, read-formed (c .before .before .before .before .before .before .before .before .before .before .before .args .table .now) (c .before .before .before .before .read .result) (c .before .before .before .before .read .ensures) (c .before .before .if1 .left) .records)
 
 refused-requires : tie.Need-refused-requires
 refused-requires c κs = search needs
@@ -38,11 +38,9 @@ returns-2 c =
     let s = c .before .before .before .before .before .before .before .before .before .before .before .before .before .before .args in
     over (s .table .now) (s .request .values) (length (s .cards .now)) (read-zero (s .table .now) (c .before .before .before .before .before .before .before .read .result) (c .before .before .before .before .before .before .before .read .ensures) (c .before .before .before .before .before .if1 .left)) (c .refused .result) (c .before .before .before .before .before .before .before .before .before .before .clear .last .0) (c .before .before .field-fault .result) (c .before .before .field-fault .ensures) (c .before .if2 .taken) (c .refused .ensures) (c .before .before .before .before .before .before .before .before .before .before .clear .ensures)
 
-rule-node-requires : tie.Need-rule-node-requires
-rule-node-requires c κs =
-    let s = c .before .before .before .before .before .before .before .before .before .before .before .before .before .before .before .args in
-    let w = read-formed (s .table .now) (c .before .before .before .before .before .before .before .before .read .result) (c .before .before .before .before .before .before .before .before .read .ensures) (c .before .before .before .before .before .before .if1 .left) in
-    (w, root (s .table .now) w (s .request .values) (c .before .before .before .before .before .before .before .before .read .result .count) (read-count (s .table .now) (c .before .before .before .before .before .before .before .before .read .result) (c .before .before .before .before .before .before .before .before .read .ensures) (c .before .before .before .before .before .before .if1 .left)))
+rule-read-requires : tie.Need-rule-read-requires
+rule-read-requires c κs =
+    read-formed (c .before .before .before .before .before .before .before .before .before .before .before .before .before .before .before .args .table .now) (c .before .before .before .before .before .before .before .before .read .result) (c .before .before .before .before .before .before .before .before .read .ensures) (c .before .before .before .before .before .before .if1 .left)
 
 clear-requires-2 : tie.Need-clear-requires-2
 clear-requires-2 c κs = search needs
@@ -56,10 +54,9 @@ same-length-3 c = search needs
 returns-3 : tie.Need-returns-3
 returns-3 c =
     let s = c .before .before .before .before .before .before .before .before .before .before .before .before .before .before .before .before .before .before .before .before .before .before .before .before .before .args in
-    let l : length (c .before .before .before .before .before .before .before .before .before .rule-node .last .1 .1 .1 .1 .0) ≡ length (s .cards .now) = c .before .before .before .before .before .before .before .before .before .rule-node .kept .1 .1 .1 .1 .0 ∙ c .before .before .before .before .before .before .before .before .before .before .before .before .before .before .before .before .before .before .before .before .before .clear .kept .0 in
+    let l : length (c .before .before .before .before .before .before .before .before .before .rule-read .last .1 .1 .0) ≡ length (s .cards .now) = c .before .before .before .before .before .before .before .before .before .rule-read .kept .1 .1 .0 ∙ c .before .before .before .before .before .before .before .before .before .before .before .before .before .before .before .before .before .before .before .before .before .clear .kept .0 in
     short (s .table .now) (s .request .values) (length (s .cards .now)) (read-zero (s .table .now) (c .before .before .before .before .before .before .before .before .before .before .before .before .before .before .before .before .before .before .read .result) (c .before .before .before .before .before .before .before .before .before .before .before .before .before .before .before .before .before .before .read .ensures) (c .before .before .before .before .before .before .before .before .before .before .before .before .before .before .before .before .if1 .left))
-    (c .before .before .before .before .before .before .before .before .before .before .before .before .before .field-fault .result) (c .before .before .before .before .before .before .before .before .before .before .before .before .before .field-fault .ensures) (c .before .before .before .before .before .before .before .before .before .before .before .before .if2 .left) (c .before .before .before .before .before .before .before .before .before .before .before .before .before .before .before .before .before .before .read .result .count) (read-count (s .table .now) (c .before .before .before .before .before .before .before .before .before .before .before .before .before .before .before .before .before .before .read .result) (c .before .before .before .before .before .before .before .before .before .before .before .before .before .before .before .before .before .before .read .ensures) (c .before .before .before .before .before .before .before .before .before .before .before .before .before .before .before .before .if1 .left))
-    (c .refused2 .result) (c .before .before .before .clear2 .last .0) (c .before .before .before .before .before .before .before .before .before .before .before .before .before .before .before .before .before .before .before .before .before .clear .last .0) (c .before .before .before .before .before .before .before .before .before .rule-node .last .1 .1 .1 .1 .0) (c .before .before .before .before .before .before .before .before .before .rule-node .result .count) (c .before .before .before .before .before .before .before .before .before .rule-node .ensures .1)
+    (c .before .before .before .before .before .before .before .before .before .before .before .before .before .field-fault .result) (c .before .before .before .before .before .before .before .before .before .before .before .before .before .field-fault .ensures) (c .before .before .before .before .before .before .before .before .before .before .before .before .if2 .left) (c .before .before .before .before .before .before .before .before .before .rule-read .result .count) (c .before .before .before .before .before .before .before .before .before .rule-read .ensures .0 .1) (c .refused2 .result) (c .before .before .before .clear2 .last .0)
     (omega (arith, l, c .before .before .before .before .before .if3 .taken)) (c .refused2 .ensures) (c .before .before .before .clear2 .ensures ∙ ap zeros l)
 
 ruled-requires : tie.Need-ruled-requires
@@ -71,11 +68,10 @@ same-length-4 c = search needs
 returns-4 : tie.Need-returns-4
 returns-4 c =
     let s = c .before .before .before .before .before .before .before .before .before .before .before .before .before .before .before .before .before .before .before .before .before .args in
-    let l : length (c .before .before .before .before .before .rule-node .last .1 .1 .1 .1 .0) ≡ length (s .cards .now) = c .before .before .before .before .before .rule-node .kept .1 .1 .1 .1 .0 ∙ c .before .before .before .before .before .before .before .before .before .before .before .before .before .before .before .before .before .clear .kept .0 in
+    let l : length (c .before .before .before .before .before .rule-read .last .1 .1 .0) ≡ length (s .cards .now) = c .before .before .before .before .before .rule-read .kept .1 .1 .0 ∙ c .before .before .before .before .before .before .before .before .before .before .before .before .before .before .before .before .before .clear .kept .0 in
     good (s .table .now) (s .request .values) (length (s .cards .now)) (read-zero (s .table .now) (c .before .before .before .before .before .before .before .before .before .before .before .before .before .before .read .result) (c .before .before .before .before .before .before .before .before .before .before .before .before .before .before .read .ensures) (c .before .before .before .before .before .before .before .before .before .before .before .before .if1 .left))
-    (c .before .before .before .before .before .before .before .before .before .field-fault .result) (c .before .before .before .before .before .before .before .before .before .field-fault .ensures) (c .before .before .before .before .before .before .before .before .if2 .left) (c .before .before .before .before .before .before .before .before .before .before .before .before .before .before .read .result .count) (read-count (s .table .now) (c .before .before .before .before .before .before .before .before .before .before .before .before .before .before .read .result) (c .before .before .before .before .before .before .before .before .before .before .before .before .before .before .read .ensures) (c .before .before .before .before .before .before .before .before .before .before .before .before .if1 .left))
-    (c .ruled .result) (c .before .before .before .before .before .rule-node .last .1 .1 .1 .1 .0) (c .before .before .before .before .before .before .before .before .before .before .before .before .before .before .before .before .before .clear .last .0) (c .before .before .before .before .before .rule-node .result .decision) (c .before .before .before .before .before .rule-node .result .count) (c .before .before .before .before .before .rule-node .ensures .1)
-    (omega (arith, l, c .before .if3 .left)) (c .before .before .before .before .before .before .before .before .before .before .before .before .before .before .before .before .before .clear .ensures) (c .before .before .before .before .before .rule-node .ensures .0) (c .ruled .ensures)
+    (c .before .before .before .before .before .before .before .before .before .field-fault .result) (c .before .before .before .before .before .before .before .before .before .field-fault .ensures) (c .before .before .before .before .before .before .before .before .if2 .left) (c .before .before .before .before .before .rule-read .result .count) (c .before .before .before .before .before .rule-read .ensures .0 .1) (c .ruled .result) (c .before .before .before .before .before .rule-read .last .1 .1 .0) (c .before .before .before .before .before .before .before .before .before .before .before .before .before .before .before .before .before .clear .last .0) (c .before .before .before .before .before .rule-read .result .decision)
+    (omega (arith, l, c .before .if3 .left)) (c .before .before .before .before .before .before .before .before .before .before .before .before .before .before .before .before .before .clear .ensures) (c .before .before .before .before .before .rule-read .ensures .1) (c .before .before .before .before .before .rule-read .ensures .0 .0) (c .ruled .ensures)
 
 pub rule-spec : {M : Type 1} → statement M
 rule-spec =
@@ -89,7 +85,7 @@ rule-spec =
     refused-requires
     same-length-2
     returns-2
-    rule-node-requires
+    rule-read-requires
     clear-requires-2
     refused-requires-2
     same-length-3

@@ -15,7 +15,7 @@ fn number_at(diagram: &[u16], place: usize) -> u16
 }
 
 // How many places the entry at a place takes.
-pub(crate) fn size_at(diagram: &[u16], place: usize) -> usize
+pub fn size_at(diagram: &[u16], place: usize) -> usize
     requires { ⌜ place ≤ mostPlaces ⌝ }
     ensures { λ r. ⌜ (r ≡ sizeAt (now (diagram .entry)) place) × (r < 131073) ⌝ }
 {

@@ -1,12 +1,12 @@
--- `soundness::layout::size_at` meets its contract: a terminal's size or a node's.
+-- `diagram::layout::size_at` meets its contract: a terminal's size or a node's.
 -- Assumes nothing.
 use mathlib.Core.Path.{sym, ap, _∙_}
 use Prim.Native.Nat.{_+_, _*_}
 use native.Mathlib.Omega.{arith}
 use borrow.Author.Needs.{needs}
 use Rattle.diagram.specs.Starts.{size-terminal, size-node}
-use Rattle.soundness.proofs.layout.size_at.Statement.{statement}
-use Rattle.soundness.proofs.layout.size_at.Tie as tie
+use Rattle.diagram.proofs.layout.size_at.Statement.{statement}
+use Rattle.diagram.proofs.layout.size_at.Tie as tie
 
 number-at-requires : tie.Need-number-at-requires
 number-at-requires c κs = search needs
