@@ -1,0 +1,5 @@
+-- What the proofs of several functions use.
+pub mod OpenEdges
+pub mod NumbersWritten
+pub mod Seeking
+pub mod LaidOut
