@@ -1,0 +1,80 @@
+-- The cards of a ruling in the list that they were stored in, and the header over the zeros that it is written over.
+-- Assumes nothing.
+use mathlib.Core.Path.{_≡_, sym, ap, _∙_, subst}
+use mathlib.Core.Bool.{Bool}
+use mathlib.Core.List.{List, _∷_, _++_, append-assoc}
+use Prim.Native.Nat.{ℕ, _+_, _-_, _≤_, _<_}
+use native.Mathlib.Omega.{arith}
+use lib.ListN.{length, take, drop, set, length-append, length-replicate}
+use lib.Seq.{sets, sets-eq, take-all, drop-at, length-sets}
+use Rattle.answer.specs.Fields.{fields}
+use Rattle.answer.specs.Answers.{zeros, padded}
+use Rattle.answer.proofs.Stored.{stored-on}
+use Rattle.table.specs.Layout.{maximum, maxima, header}
+use Rattle.table.specs.WellFormed.{WellFormed}
+use Rattle.table.proofs.Maxima.{maxima-length, maxima-each}
+use Rattle.ruling.specs.Targets.{applies}
+use Rattle.ruling.specs.Ruling.{groups}
+use Rattle.ruling.proofs.AtMost127Cards.{few-cards}
+use Rattle.diagram.specs.Layout as diagram
+use Rattle.diagram.specs.Entries.{terminal}
+use Rattle.diagram.specs.Walk.{Entries, enter}
+use Rattle.entering.specs.Laid.{Laid, Standing}
+use Rattle.entering.proofs.NumbersWritten.{start-is}
+
+-- A ruling stored in a list with room for 127 cards is that of the groups.
+module _ (t q list stored : List ℕ) (decision count : ℕ) (w : WellFormed t) (room : length list ≡ 127)
+    (ed : decision ≡ groups t q .decision) (ec : count ≡ length (groups t q .cards)) (es : stored ≡ sets list 0 (groups t q .cards)) where
+  pub few-counted : count ≤ 127
+  few-counted = omega (arith, few-cards (applies t q) t w)
+
+  -- the stored list has them all
+  pub stored-long : count ≤ length stored
+  stored-long = omega (arith, few-counted, ap length es, length-sets list 0 (groups t q .cards))
+
+  ruling-stored : record { decision = decision; cards = take count stored } ≡ groups t q
+  ruling-stored =
+      let cs : take count stored ≡ groups t q .cards =
+      start-is list (groups t q .cards) stored count es ec (omega (arith, few-cards (applies t q) t w)) in
+      ap (λ n. record { decision = n; cards = take count stored }) ed ∙ ap (λ ns. record { decision = groups t q .decision; cards = ns }) cs
+
+  -- so what was entered for it was entered for them
+  pub ruling-entered : (d d′ : List ℕ) (start : ℕ) (full : Bool) (end place : ℕ) →
+      ((es : Entries) → Laid es d start →
+      Standing (enter (diagram.header fields) es (terminal (record { decision = decision; cards = take count stored }))) (length d) d′ full end place) →
+      (es : Entries) → Laid es d start → Standing (enter (diagram.header fields) es (terminal (groups t q))) (length d) d′ full end place
+  ruling-entered d d′ start full end place stands es l =
+      subst (λ r. Standing (enter (diagram.header fields) es (terminal r)) (length d) d′ full end place) ruling-stored (stands es l)
+
+-- the numbers of the header: the places used, the place of the root and the maxima
+abbrev pub headOf : ℕ → ℕ → List ℕ → List ℕ
+headOf used root t = used ∷ root ∷ maxima t
+
+-- the maxima before a field's are written, after the first two numbers of the header
+abbrev pub Written : List ℕ → List ℕ → ℕ → List ℕ → Type 0
+Written t d field list = list ≡ sets d 2 (take field (maxima t))
+
+module _ (t d : List ℕ) (h : header ≤ length t) (field : ℕ) (list : List ℕ) (w : Written t d field list) where
+  pub written-more : (m : ℕ) → field < fields → m ≡ maximum t field → Written t d (field + 1) (set list (2 + field) m)
+  written-more m l e =
+      ap (λ x. set x (2 + field) m) w
+      ∙ ap (set (sets d 2 (take field (maxima t))) (2 + field)) (e ∙ sym (maxima-each t field l))
+      ∙ stored-on (maxima t) d 2 field (omega (arith, maxima-length t h))
+
+  pub written-all : field ≡ fields → list ≡ sets d 2 (maxima t)
+  written-all e = w ∙ ap (sets d 2) (take-all field (maxima t) (omega (arith, maxima-length t h)))
+
+-- numbers written over as many zeros, with others and zeros after them
+pub over-zeros : (vs ns : List ℕ) (n : ℕ) → sets (padded (zeros (length vs) ++ ns) n) 0 vs ≡ padded (vs ++ ns) n
+over-zeros vs ns n =
+    let front = zeros (length vs) in
+    let tail = zeros (n - length (front ++ ns)) in
+    let lf : length front ≡ length vs = length-replicate {A = ℕ} (length vs) 0 in
+    let k : 0 + length vs ≡ length vs = omega arith in
+    let same : n - length (front ++ ns) ≡ n - length (vs ++ ns) = omega (arith, length-append front ns, length-append vs ns) in
+    sets-eq vs ((front ++ ns) ++ tail) 0 (omega (arith, length-append (front ++ ns) tail, length-append front ns))
+    ∙ ap (λ i. vs ++ drop i ((front ++ ns) ++ tail)) k
+    ∙ ap (λ l. vs ++ drop (length vs) l) (append-assoc front ns tail)
+    ∙ ap (λ l. vs ++ l) (drop-at front (ns ++ tail) (length vs) lf)
+    ∙ sym (append-assoc vs ns tail)
+    ∙ ap (λ i. (vs ++ ns) ++ zeros i) same

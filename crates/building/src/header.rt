@@ -1,0 +1,26 @@
+// The header of a diagram.
+use answer::FIELDS;
+use table::layout::maximum_at;
+ghost use mathlib.Core.Path.{_≡_};
+ghost use mathlib.Core.List.{_∷_};
+ghost use Prim.Native.Nat.{_≤_};
+ghost use lib.ListN.{length};
+ghost use lib.Seq.{sets};
+ghost use Rattle.answer.specs.Fields.{fields};
+ghost use Rattle.table.specs.Layout.{maxima, header};
+ghost use Rattle.diagram.specs.Layout;
+
+// The places used, the place of the root and the maxima, to the start of a diagram.
+pub(crate) fn write_header(diagram: &mut [u16], used: u16, root: u16, table: &[u8])
+    requires { ⌜ header ≤ length (now table) ⌝ }
+    requires { ⌜ Rattle.diagram.specs.Layout.header fields ≤ length (now diagram) ⌝ }
+    ensures { λ _. ⌜ now (diagram .exit) ≡ sets (now (diagram .entry)) 0 (used ∷ root ∷ maxima (now (table .entry))) ⌝ }
+{
+    diagram[0] = used;
+    diagram[1] = root;
+    let mut field = 0;
+    while field < FIELDS {
+        diagram[2 + field] = maximum_at(table, field) as u16;
+        field += 1;
+    }
+}
