@@ -1,14 +1,14 @@
 /*
- * Kolfsein, a verified policy engine: reading a table of rules, ruling on a request by its groups, and ruling by a
- * decision diagram.
+ * Kolfsein, a verified policy engine: reading a table of rules, ruling on a request by its groups, building its
+ * decision diagram, and ruling by a diagram.
  * For C99 and C++. Link libkolfsein.a, which itself needs only C's memset.
  *
  * Every call takes any bytes, any numbers and any values and ends. It allocates nothing, keeps nothing between calls,
  * and reads and writes only what it is lent. The caller sees to this:
- * - a pointer is valid for its length: table_len bytes to read, diagram_len numbers to read, cards_len numbers to read
- *   and write;
+ * - a pointer is valid for its length: table_len bytes to read, diagram_len numbers to read, and for kolfsein_build to
+ *   read and write, cards_len numbers to read and write;
  * - where a length is 0 nothing is read or written there, and the pointer may be null;
- * - the list of cards overlaps neither the table nor the diagram.
+ * - the list of cards overlaps neither the table nor the diagram, and a diagram to be built does not overlap the table.
  */
 #ifndef KOLFSEIN_H
 #define KOLFSEIN_H
@@ -43,13 +43,14 @@ enum {
     KOLFSEIN_VALUE = 9,           /* a value over its field's maximum; place: the first such field,
                                      0 subject, 1 resource, 2 action */
     KOLFSEIN_LIST_TOO_SHORT = 10, /* the list is shorter than the cards; place 0 */
+    KOLFSEIN_ROOM = 11,           /* the built diagram needs over 32,768 places or more than lent; place 0 */
     KOLFSEIN_DIAGRAM = 12         /* the diagram isn't sound; place 0 */
 };
 
 /* No ruling has more cards than this: a list of so many places is never too short. */
 enum { KOLFSEIN_MOST_CARDS = 127 };
 
-/* No sound diagram uses more places than this. */
+/* No sound diagram uses more places than this: so many to build in are too few only where all would be. */
 enum { KOLFSEIN_MOST_PLACES = 32768 };
 
 /* What a call hands back. In a refusal the decision and the count are 0. */
@@ -75,6 +76,16 @@ kolfsein_answer kolfsein_read(const uint8_t *table, size_t table_len);
 kolfsein_answer kolfsein_rule(const uint8_t *table, size_t table_len,
                               uint16_t subject, uint16_t resource, uint16_t action,
                               uint16_t *cards, size_t cards_len);
+
+/*
+ * Builds the decision diagram of a table into the places lent: number 0, place 0, decision 0, and as count the number
+ * of places used. The places then hold the diagram, and 0 after it. It rules as the table's groups do on every request
+ * within the table's maxima. Two tables' diagrams are equal, number for number in the places used, exactly when the
+ * tables have the same maxima and rule alike, cards included.
+ * Otherwise the first refusal in this order: those of kolfsein_read, then 11. The places are then all 0.
+ * A call rules on every request within the maxima once, and takes up to some 37 KB of stack.
+ */
+kolfsein_answer kolfsein_build(const uint8_t *table, size_t table_len, uint16_t *diagram, size_t diagram_len);
 
 /*
  * Rules on a request by a diagram: number 0, place 0, the decision, and as count the number of cards, both of the

@@ -1,7 +1,8 @@
 /*
- * The library as C calls it: document 01's cases of ruling by groups, every request of table T against its listing and
- * by its diagram, each refusal from 1 to 10 and 12, tables and diagrams cut short, null pointers of length 0, and what
- * stands around a lent list. Changed diagrams are compared with a plain check and look-up, written here by themselves.
+ * The library as C calls it: document 01's cases of ruling by groups and of building, every request of table T against
+ * its listing and by its diagram, each refusal, tables and diagrams cut short, null pointers of length 0, and what
+ * stands around what is lent. Changed diagrams are compared with a plain check and look-up, and the diagrams of
+ * generated tables with a plain walk, written here by themselves.
  */
 #include <stdint.h>
 #include <stdio.h>
@@ -12,6 +13,9 @@
 #define COUNT(rows) (sizeof(rows) / sizeof(rows)[0])
 
 enum { HEADER = 8, RECORD = 11, NODES = 128, GUARDS = 4, LIST = KOLFSEIN_MOST_CARDS, LENT = GUARDS + LIST + GUARDS };
+
+/* The most places that are lent to a build here. */
+enum { MOST_ROOM = KOLFSEIN_MOST_PLACES + 8 };
 
 /* What a list holds before a call, and what stands around it: no card and no 0. */
 static const uint16_t MARK = 0xA5A5;
@@ -79,30 +83,31 @@ static void reads(int line, const struct table *t, kolfsein_answer should) {
     same(line, "a change of the table", memcmp(lent.bytes, t->bytes, sizeof lent.bytes) != 0, 0);
 }
 
-/* A list before it is lent. */
-static void mark(uint16_t lent[LENT]) {
+/* What is lent, and what stands around it, before a call. */
+static void mark(uint16_t *lent, size_t len) {
     size_t i;
-    for (i = 0; i < LENT; i++) {
+    for (i = 0; i < len; i++) {
         lent[i] = MARK;
     }
 }
 
 /*
- * After a call that was lent n places: the cards and the zeros after them, or zeros alone in a refusal; what stands
- * before and after the list stays as it is.
+ * After a call that was lent n places of these: the numbers and the zeros after them, or zeros alone in a refusal; what
+ * stands before and after stays as it is.
  */
-static void holds(int line, const uint16_t lent[LENT], size_t n, kolfsein_answer should, const uint16_t *cards) {
+static void holds(int line, const uint16_t *lent, size_t len, size_t n, kolfsein_answer should,
+                  const uint16_t *numbers) {
     size_t i, around = 0;
-    for (i = 0; i < LENT; i++) {
+    for (i = 0; i < len; i++) {
         if (i < GUARDS || i - GUARDS >= n) {
             around += lent[i] != MARK;
         } else if (i - GUARDS < should.count) {
-            same(line, "a card", lent[i], cards[i - GUARDS]);
+            same(line, "a number", lent[i], numbers[i - GUARDS]);
         } else {
-            same(line, "a place after the cards", lent[i], 0);
+            same(line, "a place after the numbers", lent[i], 0);
         }
     }
-    same(line, "the number of places changed around the list", around, 0);
+    same(line, "the number of places changed around", around, 0);
 }
 
 /* Rules with a list of n places: the answer and the list; the table's bytes stay as they are. */
@@ -110,19 +115,32 @@ static void rules(int line, const struct table *t, struct request q, size_t n,
                   kolfsein_answer should, const uint16_t *cards) {
     uint16_t lent[LENT];
     struct table before = *t;
-    mark(lent);
+    mark(lent, LENT);
     same_answer(line,
                 kolfsein_rule(before.bytes, before.len, q.values[0], q.values[1], q.values[2], lent + GUARDS, n),
                 should);
-    holds(line, lent, n, should, cards);
+    holds(line, lent, LENT, n, should, cards);
     same(line, "a change of the table", memcmp(before.bytes, t->bytes, sizeof before.bytes) != 0, 0);
 }
 
-/* A table that is refused, by reading and by ruling, whatever is asked. */
+/* Builds into n places: the answer and the places; the table's bytes stay as they are. */
+static void builds(int line, const struct table *t, size_t n, kolfsein_answer should, const uint16_t *numbers) {
+    static uint16_t lent[GUARDS + MOST_ROOM + GUARDS];
+    size_t len = GUARDS + n + GUARDS;
+    struct table before = *t;
+    mark(lent, len);
+    same_answer(line, kolfsein_build(before.bytes, before.len, lent + GUARDS, n), should);
+    holds(line, lent, len, n, should, numbers);
+    same(line, "a change of the table", memcmp(before.bytes, t->bytes, sizeof before.bytes) != 0, 0);
+}
+
+/* A table that is refused, by reading, by ruling and by building, whatever is asked or lent. */
 static void refuses(int line, const struct table *t, unsigned number, size_t place) {
     reads(line, t, refused(number, place));
     rules(line, t, request(0, 0, 0), 2, refused(number, place), NULL);
     rules(line, t, request(256, 256, 256), 0, refused(number, place), NULL);
+    builds(line, t, 0, refused(number, place), NULL);
+    builds(line, t, 80, refused(number, place), NULL);
 }
 
 /* Table T of document 01. */
@@ -389,9 +407,9 @@ static void looks_up(int line, const uint16_t *diagram, size_t len, struct reque
     static uint16_t before[KOLFSEIN_MOST_PLACES + 1];
     uint16_t lent[LENT];
     memcpy(before, diagram, len * sizeof *diagram);
-    mark(lent);
+    mark(lent, LENT);
     same_answer(line, kolfsein_look_up(diagram, len, q.values[0], q.values[1], q.values[2], lent + GUARDS, n), should);
-    holds(line, lent, n, should, cards);
+    holds(line, lent, LENT, n, should, cards);
     same(line, "a change of the diagram", memcmp(before, diagram, len * sizeof *diagram) != 0, 0);
 }
 
@@ -777,6 +795,249 @@ static void middling_diagrams(void) {
     }
 }
 
+/* A diagram as document 01's walk enters it, in plain C: its numbers, from place 5 on, until there is no room. */
+struct walked {
+    uint16_t numbers[MOST_ROOM];
+    size_t used;
+    int full;
+};
+
+/* An entry of so many numbers: the place of an equal one, else it follows the last. */
+static size_t enter(struct walked *w, const uint16_t *entry, size_t size) {
+    size_t p;
+    for (p = 5; p < w->used; p += entry_size(w->numbers, p)) {
+        if (entry_size(w->numbers, p) == size && memcmp(w->numbers + p, entry, size * sizeof *entry) == 0) {
+            return p;
+        }
+    }
+    if (size > MOST_ROOM - w->used) {
+        w->full = 1;
+        return 0;
+    }
+    memcpy(w->numbers + w->used, entry, size * sizeof *entry);
+    w->used += size;
+    return p;
+}
+
+/* The walk of the fields from one on, under the values before it: the place of what is entered last. */
+static size_t walk(struct walked *w, const struct table *t, struct request q, size_t field) {
+    uint16_t entry[2 + 2 * 256];
+    size_t edges = 0, v, place;
+    if (field == 3) {
+        kolfsein_answer a =
+            kolfsein_rule(t->bytes, t->len, q.values[0], q.values[1], q.values[2], entry + 3, KOLFSEIN_MOST_CARDS);
+        entry[0] = 0;
+        entry[1] = a.decision;
+        entry[2] = (uint16_t)a.count;
+        return enter(w, entry, 3 + a.count);
+    }
+    for (v = 0; v <= t->bytes[3 + field] && !w->full; v++) {
+        q.values[field] = (uint16_t)v;
+        place = walk(w, t, q, field + 1);
+        if (edges == 0 || entry[1 + 2 * edges] != place) {
+            edges++;
+        }
+        entry[2 * edges] = (uint16_t)v;
+        entry[1 + 2 * edges] = (uint16_t)place;
+    }
+    entry[0] = (uint16_t)(field + 1);
+    entry[1] = (uint16_t)edges;
+    return enter(w, entry, 2 + 2 * edges);
+}
+
+/* The whole diagram; the caller's to read until the next call. */
+static const struct walked *walk_all(const struct table *t) {
+    static struct walked w;
+    size_t f;
+    w.used = 5;
+    w.full = 0;
+    w.numbers[1] = (uint16_t)walk(&w, t, request(0, 0, 0), 0);
+    w.numbers[0] = (uint16_t)w.used;
+    for (f = 0; f < 3; f++) {
+        w.numbers[2 + f] = t->bytes[3 + f];
+    }
+    return &w;
+}
+
+/* Builds a table's diagram in the room that it takes, in one place more, and in one fewer, which is refused. */
+static void builds_exactly(int line, const struct table *t, const uint16_t *numbers, size_t used) {
+    builds(line, t, used, counted(used), numbers);
+    builds(line, t, used + 1, counted(used), numbers);
+    builds(line, t, used - 1, refused(KOLFSEIN_ROOM, 0), NULL);
+}
+
+/* T's diagram in every room up to some, an empty root's of each kind, and tables that rule as T does, or almost. */
+static void building(void) {
+    struct table t = table_t(), other;
+    uint16_t numbers[COUNT(DIAGRAM)];
+    size_t n, kind;
+    for (n = 0; n < COUNT(DIAGRAM); n++) {
+        builds(__LINE__, &t, n, refused(KOLFSEIN_ROOM, 0), NULL);
+    }
+    for (n = COUNT(DIAGRAM); n <= 2 * COUNT(DIAGRAM); n++) {
+        builds(__LINE__, &t, n, counted(COUNT(DIAGRAM)), DIAGRAM);
+    }
+    builds(__LINE__, &t, KOLFSEIN_MOST_PLACES, counted(COUNT(DIAGRAM)), DIAGRAM);
+    builds(__LINE__, &t, MOST_ROOM, counted(COUNT(DIAGRAM)), DIAGRAM);
+    for (kind = 0; kind < 4; kind++) {
+        static const uint16_t decisions[] = {KOLFSEIN_PERMIT, KOLFSEIN_INDETERMINATE, KOLFSEIN_PERMIT, KOLFSEIN_DENY};
+        struct table empty = no_nodes(2, 1, 1), over = no_nodes(2, 1, 1);
+        add(&empty, (unsigned)kind, 1, 0);
+        builds_exactly(__LINE__, &empty, EMPTY, COUNT(EMPTY));
+        /* T under one more root, which hears T's decision alone */
+        add(&over, (unsigned)kind, 6, 0);
+        for (n = 0; n < 5; n++) {
+            add(&over, 0, 1, 0);
+        }
+        memcpy(over.bytes + start(1), T + HEADER, sizeof T - HEADER);
+        builds_exactly(__LINE__, &over, DIAGRAM, COUNT(DIAGRAM));
+        /* another way to combine the decision of one rule */
+        other = t_with(start(3), (unsigned)kind);
+        builds_exactly(__LINE__, &other, DIAGRAM, COUNT(DIAGRAM));
+        /* another way to combine all of them: a permit and a deny rule match for one request */
+        other = t_with(start(0), (unsigned)kind);
+        memcpy(numbers, DIAGRAM, sizeof DIAGRAM);
+        numbers[39] = decisions[kind];
+        builds_exactly(__LINE__, &other, numbers, COUNT(DIAGRAM));
+    }
+    /* another card */
+    other = t_with(start(2) + 4, 21);
+    memcpy(numbers, DIAGRAM, sizeof DIAGRAM);
+    numbers[42] = 21;
+    builds_exactly(__LINE__, &other, numbers, COUNT(DIAGRAM));
+}
+
+/* A number below a bound, of a sequence that is the same in every run. */
+static unsigned drawn(unsigned bound) {
+    static uint32_t state = 1;
+    state = state * 1664525u + 1013904223u;
+    return (unsigned)(state >> 16) % bound;
+}
+
+/* One node with random ranges, and all under it: so many nodes in all, on this level and below. */
+static void add_tree(struct table *t, size_t nodes, unsigned level) {
+    unsigned group = nodes > 1 || drawn(8) == 0;
+    uint8_t *node = t->bytes + t->len;
+    size_t f;
+    add(t, group ? drawn(4) : 4 + drawn(2), (unsigned)nodes, group ? 0 : 1 + drawn(5));
+    for (f = 0; f < 3; f++) {
+        unsigned most = t->bytes[3 + f], a = drawn(most + 1), b = drawn(most + 1);
+        if (drawn(3) != 0) {
+            node[5 + 2 * f] = (uint8_t)(a < b ? a : b);
+            node[6 + 2 * f] = (uint8_t)(a < b ? b : a);
+        }
+    }
+    for (nodes--; nodes > 0;) {
+        size_t part = level < 7 ? 1 + drawn((unsigned)nodes) : 1;
+        add_tree(t, part, level + 1);
+        nodes -= part;
+    }
+}
+
+/* Every request within a table's maxima, and one over each: its diagram rules as its groups do. */
+static void rules_as_groups(int line, const struct table *t, const uint16_t *diagram, size_t len) {
+    unsigned s, r, a;
+    for (s = 0; s <= t->bytes[3] + 1u; s++) {
+        for (r = 0; r <= t->bytes[4] + 1u; r++) {
+            for (a = 0; a <= t->bytes[5] + 1u; a++) {
+                struct request q = request(s, r, a);
+                uint16_t cards[LIST];
+                kolfsein_answer should =
+                    kolfsein_rule(t->bytes, t->len, q.values[0], q.values[1], q.values[2], cards, LIST);
+                looks_up(line, diagram, len, q, should.count, should, cards);
+                looks_up(line, diagram, len, q, LIST, should, cards);
+                if (should.count > 0) {
+                    looks_up(line, diagram, len, q, should.count - 1, refused(KOLFSEIN_LIST_TOO_SHORT, 0), NULL);
+                }
+            }
+        }
+    }
+}
+
+/* Generated tables: each diagram is that of the plain walk, and rules as the groups do. */
+static void generated(void) {
+    static uint16_t diagram[MOST_ROOM];
+    size_t i, most = 0, distinct = 0;
+    for (i = 0; i < 400; i++) {
+        struct table t = no_nodes(drawn(5), drawn(5), drawn(5));
+        const struct walked *w;
+        unsigned long before = failures;
+        add_tree(&t, 1 + drawn(i % 4 == 0 ? 40 : 8), 1);
+        reads(__LINE__, &t, counted((t.len - HEADER) / RECORD));
+        w = walk_all(&t);
+        builds_exactly(__LINE__, &t, w->numbers, w->used);
+        kolfsein_build(t.bytes, t.len, diagram, w->used + i % 3);
+        rules_as_groups(__LINE__, &t, diagram, w->used + i % 3);
+        most = w->used > most ? w->used : most;
+        distinct += w->used > 20;
+        if (failures != before) {
+            printf("where table %zu is generated\n", i);
+        }
+    }
+    same(__LINE__, "whether the tables differ enough", most > 150 && distinct > 300, 1);
+}
+
+/*
+ * A table of so many subjects and resources, where from each to the next one rule more matches, with rules that always
+ * match and rules that match for the last request alone: no two requests have the same cards, and each rule of the last
+ * kind takes one place more.
+ */
+static struct table staircase(unsigned subjects, unsigned resources, unsigned always, unsigned last) {
+    struct table t = no_nodes(subjects - 1, resources - 1, 0);
+    unsigned rules = subjects - 1 + resources - 1 + always + last, i;
+    add(&t, 2, 1 + rules, 0);
+    for (i = 0; i < rules; i++) {
+        uint8_t *node = t.bytes + t.len;
+        unsigned in_last = i >= subjects - 1 + resources - 1 + always;
+        add(&t, 4, 1, 1 + i);
+        if (i < subjects - 1 || in_last) {
+            node[5] = (uint8_t)(in_last ? subjects - 1 : 1 + i);
+        }
+        if ((i >= subjects - 1 && i < subjects - 1 + resources - 1) || in_last) {
+            node[7] = (uint8_t)(in_last ? resources - 1 : 1 + i - (subjects - 1));
+        }
+    }
+    return t;
+}
+
+/* A table of 127 rules, whose ranges in one field begin and end each at another value. */
+static struct table spread(size_t field) {
+    struct table t = no_nodes(0, 0, 0);
+    unsigned i;
+    t.bytes[3 + field] = 255;
+    add(&t, 3, NODES, 0);
+    for (i = 0; i < LIST; i++) {
+        uint8_t *node = t.bytes + t.len;
+        add(&t, 4 + i % 2, 1, 1000 + i);
+        node[5 + 2 * field] = (uint8_t)(1 + i);
+        node[6 + 2 * field] = (uint8_t)(128 + i);
+    }
+    return t;
+}
+
+/* The most edges that a node can have, at each level; the largest diagram, and one place more, refused in any room. */
+static void largest_builds(void) {
+    static uint16_t diagram[KOLFSEIN_MOST_PLACES];
+    struct table t;
+    const struct walked *w;
+    size_t f;
+    for (f = 0; f < 3; f++) {
+        t = spread(f);
+        w = walk_all(&t);
+        builds_exactly(__LINE__, &t, w->numbers, w->used);
+        kolfsein_build(t.bytes, t.len, diagram, COUNT(diagram));
+        rules_as_groups(__LINE__, &t, diagram, COUNT(diagram));
+    }
+    t = staircase(38, 22, 1, 5);
+    w = walk_all(&t);
+    same(__LINE__, "the places of the largest diagram", w->used, KOLFSEIN_MOST_PLACES);
+    builds_exactly(__LINE__, &t, w->numbers, w->used);
+    t = staircase(38, 22, 1, 6);
+    same(__LINE__, "one place more", walk_all(&t)->used, KOLFSEIN_MOST_PLACES + 1);
+    builds(__LINE__, &t, KOLFSEIN_MOST_PLACES, refused(KOLFSEIN_ROOM, 0), NULL);
+    builds(__LINE__, &t, MOST_ROOM, refused(KOLFSEIN_ROOM, 0), NULL);
+}
+
 /* A null pointer where the length is 0: for the table or the diagram, for the list, for both. */
 static void null_pointers(void) {
     uint16_t list[] = {MARK, MARK};
@@ -796,6 +1057,12 @@ static void null_pointers(void) {
     same_answer(__LINE__, kolfsein_look_up(DIAGRAM, 63, 2, 0, 0, NULL, 0), refused(KOLFSEIN_LIST_TOO_SHORT, 0));
     same_answer(__LINE__, kolfsein_look_up(DIAGRAM, 63, 3, 0, 0, NULL, 0), refused(KOLFSEIN_VALUE, 0));
     same_answer(__LINE__, kolfsein_look_up(NULL, 0, 0, 0, 0, NULL, 0), refused(KOLFSEIN_DIAGRAM, 0));
+    list[0] = list[1] = MARK;
+    same_answer(__LINE__, kolfsein_build(NULL, 0, list, 2), refused(KOLFSEIN_LENGTH, 0));
+    same(__LINE__, "the first place", list[0], 0);
+    same(__LINE__, "the second place", list[1], 0);
+    same_answer(__LINE__, kolfsein_build(T, sizeof T, NULL, 0), refused(KOLFSEIN_ROOM, 0));
+    same_answer(__LINE__, kolfsein_build(NULL, 0, NULL, 0), refused(KOLFSEIN_LENGTH, 0));
 }
 
 int main(void) {
@@ -809,6 +1076,9 @@ int main(void) {
     changed_diagrams();
     largest_diagrams();
     middling_diagrams();
+    building();
+    generated();
+    largest_builds();
     null_pointers();
     printf("%lu checks, %lu failures\n", checks, failures);
     return failures != 0;

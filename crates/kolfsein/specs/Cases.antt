@@ -2,13 +2,14 @@
 -- Assumes nothing: these are definitions.
 use mathlib.Core.List.{List, [], _∷_}
 use mathlib.Core.Path.{_≡_}
-use Prim.Native.Nat.{ℕ, _<_}
-use Rattle.answer.specs.Answers.{refused, ruled, zeros}
+use Prim.Native.Nat.{ℕ, _≤_, _<_}
+use Rattle.answer.specs.Answers.{refused, counted, ruled, zeros, padded}
 use Rattle.answer.specs.Requests.{Within}
 use Rattle.answer.specs.declared.Answer.{Answer}
 use Rattle.combining.specs.Ways.{notApplicable, permit, deny, indeterminate}
 use Rattle.table.specs.Layout.{maximum}
 use Rattle.ruling.specs.Ruling.{ruling, ruledList}
+use Rattle.building.specs.Built.{built, builtDiagram}
 
 -- "The 63 bytes of table T", with the root's kind, which is 3 in T itself
 unfoldable pub tableT : ℕ → List ℕ
@@ -38,10 +39,42 @@ emptyRoot kind subject resource action =
     ∷ kind ∷ 0 ∷ 1 ∷ 0 ∷ 0 ∷ 0 ∷ subject ∷ 0 ∷ resource ∷ 0 ∷ action
     ∷ []
 
+-- "Its diagram has 63 places, root at 55.": an entry to a line
+abbrev pub diagramT : List ℕ
+diagramT =
+    63 ∷ 55 ∷ 2 ∷ 1 ∷ 1
+    ∷ 0 ∷ 1 ∷ 1 ∷ 10
+    ∷ 0 ∷ 0 ∷ 0
+    ∷ 3 ∷ 2 ∷ 0 ∷ 5 ∷ 1 ∷ 9
+    ∷ 2 ∷ 1 ∷ 1 ∷ 12
+    ∷ 0 ∷ 1 ∷ 1 ∷ 30
+    ∷ 3 ∷ 2 ∷ 0 ∷ 5 ∷ 1 ∷ 22
+    ∷ 2 ∷ 2 ∷ 0 ∷ 12 ∷ 1 ∷ 26
+    ∷ 0 ∷ 2 ∷ 2 ∷ 10 ∷ 20
+    ∷ 3 ∷ 2 ∷ 0 ∷ 38 ∷ 1 ∷ 9
+    ∷ 2 ∷ 2 ∷ 0 ∷ 43 ∷ 1 ∷ 12
+    ∷ 1 ∷ 3 ∷ 0 ∷ 18 ∷ 1 ∷ 32 ∷ 2 ∷ 49
+    ∷ []
+
+-- an empty root's: "20 places, root at 16"
+abbrev pub emptyDiagram : ℕ → ℕ → ℕ → List ℕ
+emptyDiagram subject resource action =
+    20 ∷ 16 ∷ subject ∷ resource ∷ action
+    ∷ 0 ∷ 0 ∷ 0
+    ∷ 3 ∷ 1 ∷ action ∷ 5
+    ∷ 2 ∷ 1 ∷ resource ∷ 8
+    ∷ 1 ∷ 1 ∷ subject ∷ 12
+    ∷ []
+
 -- Table t gives request q this answer, where the list has n places, and the list then holds this.
 pub record Rules (t q : List ℕ) (n : ℕ) (a : Answer) (list : List ℕ) : Type 0 where
   pub answer : ruling t q n ≡ a
   pub holds : ruledList t q n ≡ list
+
+-- Building from table t into n places gives this answer, and they then hold this.
+pub record Builds (t : List ℕ) (n : ℕ) (a : Answer) (d : List ℕ) : Type 0 where
+  pub answer : built t n ≡ a
+  pub holds : builtDiagram t n ≡ d
 
 pub record Cases : Type 0 where
   -- "T, (0,0,0): may, 10."
@@ -69,3 +102,13 @@ pub record Cases : Type 0 where
       (kind subject resource action : ℕ) → kind < 4
       → (q : List ℕ) → Within (maximum (emptyRoot kind subject resource action)) q
       → (n : ℕ) → Rules (emptyRoot kind subject resource action) q n (ruled notApplicable 0) (zeros n)
+  -- "20 places, root at 16.": in every room that has them
+  pub empty-root-built :
+      (kind subject resource action : ℕ) → kind < 4
+      → (n : ℕ) → 20 ≤ n → Builds (emptyRoot kind subject resource action) n (counted 20) (padded (emptyDiagram subject resource action) n)
+  -- "T into 62 places: refusal 11."
+  pub t-into-62 : Builds (tableT 3) 62 (refused 11 0) (zeros 62)
+  -- "Into 63: built."
+  pub t-into-63 : Builds (tableT 3) 63 (counted 63) diagramT
+  -- one place more, which becomes 0
+  pub t-into-64 : Builds (tableT 3) 64 (counted 63) (padded diagramT 64)

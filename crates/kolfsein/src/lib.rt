@@ -1,6 +1,7 @@
 // The library's calls for C. `include/kolfsein.h` declares them: a slice is a pointer and then its length.
 use answer::Answer;
 use answer::Request;
+use building::build;
 use lookup::look_up;
 use ruling::rule;
 use table::read;
@@ -9,6 +10,7 @@ ghost use mathlib.Core.List.{[], _∷_};
 ghost use lib.ListN.{length};
 ghost use Rattle.table.specs.Reading.{reading};
 ghost use Rattle.ruling.specs.Ruling.{ruling, ruledList};
+ghost use Rattle.building.specs.Built.{built, builtDiagram};
 ghost use Rattle.diagram.specs.LookedUp.{lookedUp, lookedUpList};
 
 // Reads a table.
@@ -35,6 +37,15 @@ pub extern "C" fn kolfsein_rule(
         values: [subject, resource, action],
     };
     rule(table, request, cards)
+}
+
+// Builds the diagram of a table in the room that is lent.
+#[no_mangle]
+pub extern "C" fn kolfsein_build(table: &[u8], diagram: &mut [u16]) -> Answer
+    ensures { λ r. ⌜ r ≡ built (now (table .entry)) (length (now (diagram .entry))) ⌝ }
+    ensures { λ _. ⌜ now (diagram .exit) ≡ builtDiagram (now (table .entry)) (length (now (diagram .entry))) ⌝ }
+{
+    build(table, diagram)
 }
 
 // Rules on a request by a diagram, with the cards of the terminal that it reaches.
