@@ -1,7 +1,7 @@
 /*
  * Kolfsein, a verified policy engine: reading a table of rules, ruling on a request by its groups, building its
  * decision diagram, and ruling by a diagram.
- * For C99 and C++. Link libkolfsein.a, which itself needs only C's memset.
+ * For C99 and C++. Link libkolfsein.a, which itself needs only C's memcpy and memset.
  *
  * Every call takes any bytes, any numbers and any values and ends. It allocates nothing, keeps nothing between calls,
  * and reads and writes only what it is lent. The caller sees to this:
@@ -83,7 +83,7 @@ kolfsein_answer kolfsein_rule(const uint8_t *table, size_t table_len,
  * within the table's maxima. Two tables' diagrams are equal, number for number in the places used, exactly when the
  * tables have the same maxima and rule alike, cards included.
  * Otherwise the first refusal in this order: those of kolfsein_read, then 11. The places are then all 0.
- * A call rules on every request within the maxima once, and takes up to some 37 KB of stack.
+ * A call rules on each request within the maxima once, as long as there is room, and takes up to some 37 KB of stack.
  */
 kolfsein_answer kolfsein_build(const uint8_t *table, size_t table_len, uint16_t *diagram, size_t diagram_len);
 
