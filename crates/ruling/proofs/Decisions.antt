@@ -9,6 +9,7 @@ use borrow.Author.Tests.{le-leb, lt-leb, leb-false}
 use lib.Dec.{eqb, lit<}
 use Rattle.combining.specs.Ways.{notApplicable, permit, deny, way, step, taken, Decisions}
 use Rattle.combining.proofs.Fold.{folds, way-below}
+use Rattle.combining.proofs.Steady.{Steady}
 use Rattle.table.specs.Layout.{kind}
 use Rattle.table.specs.Tree.{endOf, isRule}
 use Rattle.table.specs.WellFormed.{WellFormed}
@@ -95,3 +96,10 @@ module _ (a : ℕ → Bool) (t : List ℕ) where
         ∙ ap (λ n. taken n r' (decisions a t (run t (endOf t i) end))) ek
         ∙ ap (λ n. taken k n (decisions a t (run t (endOf t i) end))) (er ∙ ap (step k r) ec)
         ∙ ap (λ u. taken k r (decisions a t u)) (sym (run-more t w i end h l))
+
+    -- a node that does not apply changes nothing
+    pub taken-skip : (k r i end next : ℕ) → Steady k r → Whole t i end → i < end → next ≡ endOf t i → a i ≡ false →
+        taken k r (decisions a t (run t i end)) ≡ taken k r (decisions a t (run t next end))
+    taken-skip k r i end next s h l en e =
+        sym
+        (taken-more k r i end next k r notApplicable (taken k r (decisions a t (run t next end))) h l en refl (sym (s .stays)) (ruled-not i e) refl)

@@ -3,10 +3,12 @@ pub mod Tests
 pub mod Forest
 pub mod LevelByLevel
 pub mod FieldByField
+pub mod Throughout
 pub mod Applies
 pub mod Cards
 pub mod Decisions
 pub mod Steps
+pub mod ChildByChild
 pub mod Outcome
 pub mod AppliesByParents
 pub mod CardsOfMatchingRules

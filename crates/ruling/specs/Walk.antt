@@ -15,10 +15,12 @@ use Rattle.ruling.specs.Meaning.{cardsFrom}
 abbrev pub HoldAbove : List ℕ → List ℕ → ℕ → Type 0
 HoldAbove t q i = (j : ℕ) → j < i → i < endOf t j → targetHolds t q j ≡ true
 
--- Node i is one of the table's, with the nodes under it up to end; every target above it holds, and there are no more cards so far than nodes.
+-- Node i is one of the table's, with the nodes under it up to end; its target and every target above it hold, and there are no more cards so far
+-- than nodes.
 pub record Node (t q : List ℕ) (i end cards : ℕ) : Type 0 where
   pub some : i < count t
   pub ends : end ≡ endOf t i
+  pub holds : targetHolds t q i ≡ true
   pub above : HoldAbove t q i
   pub few : cards ≤ i
 
@@ -29,6 +31,7 @@ pub record Whole (t : List ℕ) (i end : ℕ) : Type 0 where
 
 -- The nodes from i up to end are whole, every target above the first of them holds, and there are no more cards so far than nodes.
 pub record Run (t q : List ℕ) (i end cards : ℕ) : Type 0 where
+  pub order : i ≤ end
   pub whole : Whole t i end
   pub above : HoldAbove t q i
   pub few : cards ≤ i

@@ -12,7 +12,7 @@ ghost use mathlib.Core.Path.{_≡_};
 ghost use Prim.Native.Nat.{_<_};
 ghost use lib.ListN.{length, set};
 ghost use lib.Seq.{sets};
-ghost use Rattle.combining.specs.Ways.{taken};
+ghost use Rattle.combining.specs.Ways.{notApplicable, taken};
 ghost use Rattle.table.specs.WellFormed.{WellFormed};
 ghost use Rattle.ruling.specs.Forest.{run};
 ghost use Rattle.ruling.specs.Targets.{applies};
@@ -27,7 +27,7 @@ pub struct Ruled {
 }
 
 // Stores a card at place k, where the list has that place.
-fn put(cards: &mut [u16], k: usize, card: u16)
+pub fn put(cards: &mut [u16], k: usize, card: u16)
     ensures { λ _. ⌜ now (cards .exit) ≡ set (now (cards .entry)) k card ⌝ }
 {
     if k < cards.len() {
@@ -36,7 +36,7 @@ fn put(cards: &mut [u16], k: usize, card: u16)
 }
 
 // What a rule of a kind gives where it matches.
-fn effect_of(kind: u8) -> u8
+pub fn effect_of(kind: u8) -> u8
     ensures { λ r. ⌜ r ≡ effect kind ⌝ }
 {
     match kind {
@@ -45,8 +45,8 @@ fn effect_of(kind: u8) -> u8
     }
 }
 
-// Rules node i, which ends at end, where every target above it holds. The cards of matching rules are stored from place
-// count on, as far as the list reaches, and counted.
+// Rules node i, which ends at end, where its target and every target above it hold. The cards of matching rules are stored
+// from place count on, as far as the list reaches, and counted.
 pub(crate) fn rule_node(
     table: &[u8],
     values: &[u16; FIELDS],
@@ -60,18 +60,9 @@ pub(crate) fn rule_node(
     ensures { λ r. ⌜ r .decision ≡ decision (applies (now (table .entry)) (now (values .entry))) (now (table .entry)) i ⌝ }
     ensures { λ r. ⌜ Gathered (now (table .entry)) (now (values .entry)) i end count (r .count) (now (cards .entry)) (now (cards .exit)) ⌝ }
 {
-    if !target_holds(table, values, i) {
-        return Ruled {
-            decision: Decision::NOT_APPLICABLE,
-            count,
-        };
-    }
     let kind = kind_at(table, i);
     match kind {
-        0..=3 => {
-            let running = Running::start(kind);
-            rule_run(table, values, i + 1, end, running, cards, count)
-        }
+        0..=3 => rule_run(table, values, kind, i + 1, end, cards, count),
         _ => {
             put(cards, count, card_at(table, i));
             Ruled {
@@ -82,32 +73,38 @@ pub(crate) fn rule_node(
     }
 }
 
-// Rules the nodes from i up to end, each with those under it: the running decision takes in one after another.
+// Rules the children of a group of a kind, the nodes from first up to end, each with those under it, where there were so many
+// cards before: the running decision takes in one child after another. A child whose target fails changes nothing, and is
+// stepped over by its span.
 fn rule_run(
     table: &[u8],
     values: &[u16; FIELDS],
-    i: usize,
+    kind: u8,
+    first: usize,
     end: usize,
-    running: Running,
     cards: &mut [u16],
-    count: usize,
+    before: usize,
 ) -> Ruled
     requires { ⌜ WellFormed (now table) ⌝ }
-    requires { ⌜ Run (now table) (now values) i end count ⌝ }
-    requires { ⌜ (running .kind < 4) × (running .decision < 4) ⌝ }
-    ensures { λ r. ⌜ r .decision ≡ taken (running .kind) (running .decision) (decisions (applies (now (table .entry)) (now (values .entry))) (now (table .entry)) (run (now (table .entry)) i end)) ⌝ }
-    ensures { λ r. ⌜ Gathered (now (table .entry)) (now (values .entry)) i end count (r .count) (now (cards .entry)) (now (cards .exit)) ⌝ }
+    requires { ⌜ Run (now table) (now values) first end before × (kind < 4) ⌝ }
+    ensures { λ r. ⌜ r .decision ≡ taken kind notApplicable (decisions (applies (now (table .entry)) (now (values .entry))) (now (table .entry)) (run (now (table .entry)) first end)) ⌝ }
+    ensures { λ r. ⌜ Gathered (now (table .entry)) (now (values .entry)) first end before (r .count) (now (cards .entry)) (now (cards .exit)) ⌝ }
 {
-    if i < end {
+    let mut running = Running::start(kind);
+    let mut count = before;
+    let mut i = first;
+    while i < end {
         let next = i + span_at(table, i);
-        let child = rule_node(table, values, i, next, cards, count);
-        let taken = running.take(child.decision);
-        rule_run(table, values, next, end, taken, cards, child.count)
-    } else {
-        Ruled {
-            decision: running.decision,
-            count,
+        if target_holds(table, values, i) {
+            let child = rule_node(table, values, i, next, cards, count);
+            running = running.take(child.decision);
+            count = child.count;
         }
+        i = next;
+    }
+    Ruled {
+        decision: running.decision,
+        count,
     }
 }
 
@@ -117,6 +114,12 @@ pub fn rule_read(table: &[u8], values: &[u16; FIELDS], cards: &mut [u16]) -> Rul
     ensures { λ r. ⌜ (r .decision ≡ groups (now (table .entry)) (now (values .entry)) .decision) × (r .count ≡ length (groups (now (table .entry)) (now (values .entry)) .cards)) ⌝ }
     ensures { λ _. ⌜ now (cards .exit) ≡ sets (now (cards .entry)) 0 (groups (now (table .entry)) (now (values .entry)) .cards) ⌝ }
 {
+    if !target_holds(table, values, 0) {
+        return Ruled {
+            decision: Decision::NOT_APPLICABLE,
+            count: 0,
+        };
+    }
     let count = count_at(table);
     rule_node(table, values, 0, count, cards, 0)
 }

@@ -1,16 +1,17 @@
--- `ruling::groups::rule_node` and `rule_run`, which call each other, meet their contracts: the nodes left up to the end fall.
+-- `ruling::groups::rule_node` and `rule_run`, which call each other, meet their contracts: the nodes left up to the end fall. Before each child
+-- those before it were taken in.
 -- Assumes nothing.
-use mathlib.Core.Bool.{true, false}
-use mathlib.Core.Path.{sym, ap, _∙_}
+use mathlib.Core.Path.{refl, sym, _∙_}
 use Prim.Native.Nat.{_+_, _-_, _*_, ℕ, _<_}
 use native.Mathlib.Omega.{arith}
-use borrow.Author.Tests.{not-true, not-false}
 use borrow.Author.Needs.{needs}
 use borrow.Fn.Kinds.{In}
 use borrow.Fn.PlainCycle.{Measures, is, falls, and}
+use Rattle.combining.specs.Ways.{notApplicable}
 use Rattle.ruling.specs.Targets.{applies}
-use Rattle.ruling.proofs.Steps.{held, children, first, rest, own, gathered-not, gathered-none, gathered-rule, gathered-group, gathered-more}
-use Rattle.ruling.proofs.Decisions.{decision-below, ruled-not, ruled-rule, ruled-group, taken-none, taken-more}
+use Rattle.ruling.proofs.Steps.{held, gathered-length, children, own, gathered-rule, gathered-group}
+use Rattle.ruling.proofs.Decisions.{decision-below, ruled-rule, ruled-group}
+use Rattle.ruling.proofs.ChildByChild.{Before, before-first, before-end, before-some, before-within, before-child, before-next, before-skipped}
 use Rattle.combining.proofs.Running.start.Reads as start-reads
 use Rattle.combining.proofs.Running.take.Reads as take-reads
 use Rattle.table.proofs.layout.card_at.Reads as card-at-reads
@@ -32,7 +33,7 @@ abbrev μ-rule-node : Measures 3 rule-node-kinds.ps ℕ
 μ-rule-node κs a = 2 * (a .1 .1 .1 .0 - a .1 .1 .0)
 
 abbrev μ-rule-run : Measures 3 rule-run-kinds.ps ℕ
-μ-rule-run κs a = 2 * (a .1 .1 .1 .0 - a .1 .1 .0) + 1
+μ-rule-run κs a = 2 * (a .1 .1 .1 .1 .0 - a .1 .1 .1 .0) + 1
 
 abbrev rule-node-at : ℕ → In 3 rule-node-kinds.ps
 rule-node-at t = and 3 rule-node-kinds.ps (is 3 rule-node-kinds.ps μ-rule-node t) rule-node.Pre
@@ -50,12 +51,8 @@ rule-run-below t =
 
 abbrev rule-node-claims : ℕ → rule-node-lts.Claims
 rule-node-claims t = (
-  target-holds-reads.Asked,
-  target-holds-reads.Learnt,
   kind-at-reads.Asked,
   kind-at-reads.Learnt,
-  start-reads.Asked,
-  start-reads.Learnt,
   rule-run-below t,
   rule-run.Post,
   card-at-reads.Asked,
@@ -68,55 +65,35 @@ rule-node-claims t = (
 
 abbrev rule-run-claims : ℕ → rule-run-lts.Claims
 rule-run-claims t = (
+  start-reads.Asked,
+  start-reads.Learnt,
   span-at-reads.Asked,
   span-at-reads.Learnt,
+  target-holds-reads.Asked,
+  target-holds-reads.Learnt,
   rule-node-below t,
   rule-node.Post,
   take-reads.Asked,
   take-reads.Learnt,
-  rule-run-below t,
-  rule-run.Post,
 )
 
-rule-node-target-holds-requires : (t : ℕ) → rule-node-lts.Need-target-holds-requires (rule-node-claims t) (rule-node-at t) rule-node.Post
-rule-node-target-holds-requires t c κs = held (c .before .before .args .table .now) (c .before .before .pre .1 .0) (c .before .before .args .i) (c .before .before .pre .1 .1 .some)
-
-rule-node-returns : (t : ℕ) → rule-node-lts.Need-returns (rule-node-claims t) (rule-node-at t) rule-node.Post
-rule-node-returns t c =
-    let s = c .before .before .before .before .args in
-    let n = c .before .before .before .before .pre .1 .1 in
-    let h = sym (c .before .target-holds .ensures) ∙ not-true _ (c .if1 .taken) in (
-      ruled-not (applies (s .table .now) (s .values .now)) (s .table .now) (s .i) (own (s .table .now) (c .before .before .before .before .pre .1 .0) (s .values .now) (s .i) (s .end) (s .count) false n h),
-      gathered-not (s .table .now) (c .before .before .before .before .pre .1 .0) (s .values .now) (s .i) (s .end) (s .count) (s .cards .now) n h,
-    )
-
 rule-node-kind-at-requires : (t : ℕ) → rule-node-lts.Need-kind-at-requires (rule-node-claims t) (rule-node-at t) rule-node.Post
-rule-node-kind-at-requires t c κs = held (c .before .before .before .before .args .table .now) (c .before .before .before .before .pre .1 .0) (c .before .before .before .before .args .i) (c .before .before .before .before .pre .1 .1 .some)
+rule-node-kind-at-requires t c κs = held (c .before .before .args .table .now) (c .before .before .pre .1 .0) (c .before .before .args .i) (c .before .before .pre .1 .1 .some)
 
 rule-node-add-rule-run : (t : ℕ) → rule-node-lts.Need-add-rule-run (rule-node-claims t) (rule-node-at t) rule-node.Post
-rule-node-add-rule-run t c = omega (arith, c .before .before .before .before .before .before .before .pre .1 .1 .some, c .before .before .before .before .before .before .before .pre .1 .0 .few)
-
-rule-node-start-requires : (t : ℕ) → rule-node-lts.Need-start-requires (rule-node-claims t) (rule-node-at t) rule-node.Post
-rule-node-start-requires t c κs = tt
+rule-node-add-rule-run t c = omega (arith, c .before .before .before .before .pre .1 .1 .some, c .before .before .before .before .pre .1 .0 .few)
 
 rule-node-rule-run-requires : (t : ℕ) → rule-node-lts.Need-rule-run-requires (rule-node-claims t) (rule-node-at t) rule-node.Post
 rule-node-rule-run-requires t c κs =
-    let s = c .before .before .before .before .before .before .before .before .args in
-    let w = c .before .before .before .before .before .before .before .before .pre .1 .0 in
-    let n = c .before .before .before .before .before .before .before .before .pre .1 .1 in
-    let h = sym (c .before .before .before .before .before .target-holds .ensures) ∙ not-false _ (c .before .before .before .before .if1 .left) in (
-      omega (arith, w .spans (s .i) (n .some), n .ends, c .before .before .before .before .before .before .before .before .pre .0),
-      (
-        w,
-        (
-          children (s .table .now) w (s .values .now) (s .i) (s .end) (s .count) h n,
-          (omega (arith, c .before .start .ensures .0, c .before .before .if2 .taken), omega (arith, c .before .start .ensures .1)),
-        ),
-      ),
+    let s = c .before .before .before .before .before .args in
+    let w = c .before .before .before .before .before .pre .1 .0 in
+    let n = c .before .before .before .before .before .pre .1 .1 in (
+      omega (arith, w .spans (s .i) (n .some), n .ends, c .before .before .before .before .before .pre .0),
+      (w, (children (s .table .now) w (s .values .now) (s .i) (s .end) (s .count) n, omega (arith, c .before .if1 .taken))),
     )
 
 rule-node-card-at-requires : (t : ℕ) → rule-node-lts.Need-card-at-requires (rule-node-claims t) (rule-node-at t) rule-node.Post
-rule-node-card-at-requires t c κs = held (c .before .before .before .before .before .before .before .args .table .now) (c .before .before .before .before .before .before .before .pre .1 .0) (c .before .before .before .before .before .before .before .args .i) (c .before .before .before .before .before .before .before .pre .1 .1 .some)
+rule-node-card-at-requires t c κs = held (c .before .before .before .before .before .args .table .now) (c .before .before .before .before .before .pre .1 .0) (c .before .before .before .before .before .args .i) (c .before .before .before .before .before .pre .1 .1 .some)
 
 rule-node-put-requires : (t : ℕ) → rule-node-lts.Need-put-requires (rule-node-claims t) (rule-node-at t) rule-node.Post
 rule-node-put-requires t c κs = tt
@@ -124,133 +101,136 @@ rule-node-put-requires t c κs = tt
 rule-node-effect-of-requires : (t : ℕ) → rule-node-lts.Need-effect-of-requires (rule-node-claims t) (rule-node-at t) rule-node.Post
 rule-node-effect-of-requires t c κs = tt
 
-rule-node-add-t21 : (t : ℕ) → rule-node-lts.Need-add-t21 (rule-node-claims t) (rule-node-at t) rule-node.Post
-rule-node-add-t21 t c = omega (arith, c .before .before .before .before .before .before .before .before .before .before .before .before .pre .1 .1 .some, c .before .before .before .before .before .before .before .before .before .before .before .before .pre .1 .1 .few, c .before .before .before .before .before .before .before .before .before .before .before .before .pre .1 .0 .few)
+rule-node-add-t18 : (t : ℕ) → rule-node-lts.Need-add-t18 (rule-node-claims t) (rule-node-at t) rule-node.Post
+rule-node-add-t18 t c = omega (arith, c .before .before .before .before .before .before .before .before .before .before .pre .1 .1 .some, c .before .before .before .before .before .before .before .before .before .before .pre .1 .1 .few, c .before .before .before .before .before .before .before .before .before .before .pre .1 .0 .few)
 
 rule-node-same-length : (t : ℕ) → rule-node-lts.Need-same-length (rule-node-claims t) (rule-node-at t) rule-node.Post
 rule-node-same-length t c = search needs
 
-rule-node-returns-2 : (t : ℕ) → rule-node-lts.Need-returns-2 (rule-node-claims t) (rule-node-at t) rule-node.Post
-rule-node-returns-2 t c =
-    let s = c .before .before .before .before .before .before .before .before .before .before .before .args in
-    let w = c .before .before .before .before .before .before .before .before .before .before .before .pre .1 .0 in
-    let n = c .before .before .before .before .before .before .before .before .before .before .before .pre .1 .1 in
-    let h = sym (c .before .before .before .before .before .before .before .before .target-holds .ensures) ∙ not-false _ (c .before .before .before .before .before .before .before .if1 .left) in
-    let k = c .before .before .before .before .before .before .kind-at .ensures in (
-      ruled-group (applies (s .table .now) (s .values .now)) (s .table .now) (s .i) (s .end) (c .before .before .before .before .start .result .kind) (c .before .before .before .before .start .result .decision) (c .before .before .rule-run .result .decision)
-          (own (s .table .now) w (s .values .now) (s .i) (s .end) (s .count) true n h)
-          (c .before .before .before .before .start .ensures .0 ∙ k) (omega (arith, c .before .before .before .before .start .ensures .0, c .before .before .before .before .before .if2 .taken)) (c .before .before .before .before .start .ensures .1) (n .ends) (c .before .before .rule-run .ensures .0),
-      gathered-group (s .table .now) w (s .values .now) (s .i) (s .end) (s .count) (c .before .before .rule-run .result .count) (s .cards .now) (c .before .before .rule-run .last .1 .1 .1 .1 .1 .0)
-          n (omega (arith, k, c .before .before .before .before .before .if2 .taken)) (c .before .before .rule-run .ensures .1),
+rule-node-returns : (t : ℕ) → rule-node-lts.Need-returns (rule-node-claims t) (rule-node-at t) rule-node.Post
+rule-node-returns t c =
+    let s = c .before .before .before .before .before .before .before .before .args in
+    let w = c .before .before .before .before .before .before .before .before .pre .1 .0 in
+    let n = c .before .before .before .before .before .before .before .before .pre .1 .1 in
+    let k = c .before .before .before .before .before .kind-at .ensures in
+    let x = c .before .before .rule-run in (
+      ruled-group (applies (s .table .now) (s .values .now)) (s .table .now) (s .i) (s .end) (c .before .before .before .before .before .kind-at .result) notApplicable (x .result .decision)
+          (own (s .table .now) w (s .values .now) (s .i) (s .end) (s .count) n) k (omega (arith, c .before .before .before .before .if1 .taken)) refl (n .ends) (x .ensures .0),
+      gathered-group (s .table .now) w (s .values .now) (s .i) (s .end) (s .count) (x .result .count) (s .cards .now) (x .last .1 .1 .1 .1 .1 .0)
+          n (omega (arith, k, c .before .before .before .before .if1 .taken)) (x .ensures .1),
     )
 
 rule-node-same-length-2 : (t : ℕ) → rule-node-lts.Need-same-length-2 (rule-node-claims t) (rule-node-at t) rule-node.Post
 rule-node-same-length-2 t c = search needs
 
-rule-node-returns-3 : (t : ℕ) → rule-node-lts.Need-returns-3 (rule-node-claims t) (rule-node-at t) rule-node.Post
-rule-node-returns-3 t c =
-    let s = c .before .before .before .before .before .before .before .before .before .before .before .before .args in
-    let w = c .before .before .before .before .before .before .before .before .before .before .before .before .pre .1 .0 in
-    let n = c .before .before .before .before .before .before .before .before .before .before .before .before .pre .1 .1 in
-    let h = sym (c .before .before .before .before .before .before .before .before .before .target-holds .ensures) ∙ not-false _ (c .before .before .before .before .before .before .before .before .if1 .left) in
-    let k = c .before .before .before .before .before .before .before .kind-at .ensures in (
-      ruled-rule (applies (s .table .now) (s .values .now)) (s .table .now) (s .i) (c .before .before .before .before .before .before .before .kind-at .result) (c .effect-of .result)
-          (own (s .table .now) w (s .values .now) (s .i) (s .end) (s .count) true n h) k (c .before .before .before .before .before .before .if2 .left) (c .effect-of .ensures),
-      gathered-rule (s .table .now) w (s .values .now) (s .i) (s .end) (s .count) (c .before .before .before .before .card-at .result) (s .cards .now) (c .before .before .before .put .last .0)
-          n h (omega (arith, k, c .before .before .before .before .before .before .if2 .left)) (c .before .before .before .before .card-at .ensures .0) (c .before .before .before .put .ensures),
-    )
-
-rule-run-span-at-requires : (t : ℕ) → rule-run-lts.Need-span-at-requires (rule-run-claims t) (rule-run-at t) rule-run.Post
-rule-run-span-at-requires t c κs = held (c .before .before .before .args .table .now) (c .before .before .before .pre .1 .0) (c .before .before .before .args .i) (omega (arith, c .before .before .before .pre .1 .1 .0 .whole .inside, c .if1 .taken))
-
-rule-run-add-next : (t : ℕ) → rule-run-lts.Need-add-next (rule-run-claims t) (rule-run-at t) rule-run.Post
-rule-run-add-next t c =
-    let r = c .before .before .before .before .pre .1 .1 .0 in
-    omega (arith, r .whole .each (c .before .before .before .before .args .i) (omega arith) (c .before .if1 .taken), r .whole .inside, c .before .before .before .before .pre .1 .0 .few, c .span-at .ensures .0)
-
-rule-run-rule-node-requires : (t : ℕ) → rule-run-lts.Need-rule-node-requires (rule-run-claims t) (rule-run-at t) rule-run.Post
-rule-run-rule-node-requires t c κs =
-    let s = c .before .before .before .before .before .args in
-    let w = c .before .before .before .before .before .pre .1 .0 in
-    let r = c .before .before .before .before .before .pre .1 .1 .0 in
-    let e = ap (λ n. s .i + n) (c .before .span-at .ensures .0) in (
-      omega (arith, r .whole .each (s .i) (omega arith) (c .before .before .if1 .taken), c .before .span-at .ensures .0, c .before .before .before .before .before .pre .0),
-      (w, first (s .table .now) w (s .values .now) (s .i) (s .end) (s .i + c .before .span-at .result) (s .count) (c .before .before .if1 .taken) e r),
-    )
-
-rule-run-take-requires : (t : ℕ) → rule-run-lts.Need-take-requires (rule-run-claims t) (rule-run-at t) rule-run.Post
-rule-run-take-requires t c κs =
-    let s = c .before .before .before .before .before .before .before .before .args in (
-      c .before .before .before .before .before .before .before .before .pre .1 .1 .1 .0,
-      c .before .before .before .before .before .before .before .before .pre .1 .1 .1 .1,
-      rw (c .before .before .rule-node .ensures .0) (decision-below (applies (s .table .now) (s .values .now)) (s .table .now) (s .i)),
-    )
-
-rule-run-rule-run-requires : (t : ℕ) → rule-run-lts.Need-rule-run-requires (rule-run-claims t) (rule-run-at t) rule-run.Post
-rule-run-rule-run-requires t c κs =
+rule-node-returns-2 : (t : ℕ) → rule-node-lts.Need-returns-2 (rule-node-claims t) (rule-node-at t) rule-node.Post
+rule-node-returns-2 t c =
     let s = c .before .before .before .before .before .before .before .before .before .before .args in
     let w = c .before .before .before .before .before .before .before .before .before .before .pre .1 .0 in
-    let r = c .before .before .before .before .before .before .before .before .before .before .pre .1 .1 .0 in
-    let e = ap (λ n. s .i + n) (c .before .before .before .before .before .before .span-at .ensures .0) in (
-      omega (arith, r .whole .each (s .i) (omega arith) (c .before .before .before .before .before .before .before .if1 .taken), w .spans (s .i) (omega (arith, r .whole .inside, c .before .before .before .before .before .before .before .if1 .taken)), c .before .before .before .before .before .before .span-at .ensures .0, c .before .before .before .before .before .before .before .before .before .before .pre .0),
-      (
-        w,
-        (
-          rest (s .table .now) w (s .values .now) (s .i) (s .end) (s .i + c .before .before .before .before .before .before .span-at .result) (s .count) (c .before .before .before .before .rule-node .result .count) (s .cards .now) (c .before .before .before .before .rule-node .last .1 .1 .1 .1 .0) (c .before .before .before .before .before .before .before .if1 .taken) e r (c .before .before .before .before .rule-node .ensures .1),
-          (omega (arith, c .before .take .ensures .0, c .before .before .before .before .before .before .before .before .before .before .pre .1 .1 .1 .0), c .before .take .ensures .2),
-        ),
-      ),
+    let n = c .before .before .before .before .before .before .before .before .before .before .pre .1 .1 in
+    let k = c .before .before .before .before .before .before .before .kind-at .ensures in (
+      ruled-rule (applies (s .table .now) (s .values .now)) (s .table .now) (s .i) (c .before .before .before .before .before .before .before .kind-at .result) (c .effect-of .result)
+          (own (s .table .now) w (s .values .now) (s .i) (s .end) (s .count) n) k (c .before .before .before .before .before .before .if1 .left) (c .effect-of .ensures),
+      gathered-rule (s .table .now) w (s .values .now) (s .i) (s .end) (s .count) (c .before .before .before .before .card-at .result) (s .cards .now) (c .before .before .before .put .last .0)
+          n (omega (arith, k, c .before .before .before .before .before .before .if1 .left)) (c .before .before .before .before .card-at .ensures .0) (c .before .before .before .put .ensures),
     )
 
-rule-run-same-length : (t : ℕ) → rule-run-lts.Need-same-length (rule-run-claims t) (rule-run-at t) rule-run.Post
-rule-run-same-length t c = search needs
+abbrev rule-run-Inv-loop : rule-run-lts.InvT-loop
+rule-run-Inv-loop table values kind first end cards₀ before running₀ count₀ i₀ cards running count i =
+    Before table values kind first end before cards₀ i (running .kind) (running .decision) count cards
 
-rule-run-returns : (t : ℕ) → rule-run-lts.Need-returns (rule-run-claims t) (rule-run-at t) rule-run.Post
-rule-run-returns t c =
-    let s = c .before .before .before .before .before .before .before .before .before .before .before .before .before .args in
+abbrev rule-run-μ-loop : rule-run-lts.MeasureT-loop
+rule-run-μ-loop table values kind first end cards₀ before running₀ count₀ i₀ cards running count i = end - i
+
+rule-run-start-requires : (t : ℕ) → rule-run-lts.Need-start-requires (rule-run-claims t) (rule-run-at t) rule-run.Post rule-run-Inv-loop rule-run-μ-loop
+rule-run-start-requires t c κs = tt
+
+rule-run-loop-holds : (t : ℕ) → rule-run-lts.Need-loop-holds (rule-run-claims t) (rule-run-at t) rule-run.Post rule-run-Inv-loop rule-run-μ-loop
+rule-run-loop-holds t c = before-first (c .before .before .before .pre .1 .0) (c .before .before .before .pre .1 .1 .0) (c .before .before .before .pre .1 .1 .1) (c .start .ensures .0) (c .start .ensures .1)
+
+rule-run-span-at-requires : (t : ℕ) → rule-run-lts.Need-span-at-requires (rule-run-claims t) (rule-run-at t) rule-run.Post rule-run-Inv-loop rule-run-μ-loop
+rule-run-span-at-requires t c κs = held (c .before .before .before .before .before .args .table .now) (c .before .before .before .before .before .pre .1 .0) (c .before .loop .i) (before-some (c .before .before .before .before .before .pre .1 .0) (c .before .loop .inv) (c .loop-test .taken))
+
+rule-run-add-next : (t : ℕ) → rule-run-lts.Need-add-next (rule-run-claims t) (rule-run-at t) rule-run.Post rule-run-Inv-loop rule-run-μ-loop
+rule-run-add-next t c =
+    let w = c .before .before .before .before .before .before .pre .1 .0 in
+    let b = c .before .before .loop .inv in
+    omega (arith, before-within w b (c .before .loop-test .taken), c .span-at .ensures .0, b .ahead .whole .inside, w .few)
+
+rule-run-target-holds-requires : (t : ℕ) → rule-run-lts.Need-target-holds-requires (rule-run-claims t) (rule-run-at t) rule-run.Post rule-run-Inv-loop rule-run-μ-loop
+rule-run-target-holds-requires t c κs = held (c .before .before .before .before .before .before .args .table .now) (c .before .before .before .before .before .before .pre .1 .0) (c .before .before .loop .i) (before-some (c .before .before .before .before .before .before .pre .1 .0) (c .before .before .loop .inv) (c .before .loop-test .taken))
+
+rule-run-rule-node-requires : (t : ℕ) → rule-run-lts.Need-rule-node-requires (rule-run-claims t) (rule-run-at t) rule-run.Post rule-run-Inv-loop rule-run-μ-loop
+rule-run-rule-node-requires t c κs =
+    let w = c .before .before .before .before .before .before .before .before .before .pre .1 .0 in
+    let b = c .before .before .before .before .before .loop .inv in (
+      omega (arith, before-within w b (c .before .before .before .before .loop-test .taken), b .later, c .before .before .before .span-at .ensures .0, c .before .before .before .before .before .before .before .before .before .pre .0),
+      (w, before-child w b (c .before .before .before .before .loop-test .taken) (c .before .before .before .span-at .ensures .0) (sym (c .before .before .target-holds .ensures) ∙ c .before .if1 .taken)),
+    )
+
+rule-run-take-requires : (t : ℕ) → rule-run-lts.Need-take-requires (rule-run-claims t) (rule-run-at t) rule-run.Post rule-run-Inv-loop rule-run-μ-loop
+rule-run-take-requires t c κs =
+    let s = c .before .before .before .before .before .before .before .before .before .before .before .before .args in
+    let b = c .before .before .before .before .before .before .before .before .loop .inv in (
+      b .steady .group,
+      b .steady .one-of-four,
+      rw (c .before .before .rule-node .ensures .0) (decision-below (applies (s .table .now) (s .values .now)) (s .table .now) (c .before .before .before .before .before .before .before .before .loop .i)),
+    )
+
+rule-run-loop-less : (t : ℕ) → rule-run-lts.Need-loop-less (rule-run-claims t) (rule-run-at t) rule-run.Post rule-run-Inv-loop rule-run-μ-loop
+rule-run-loop-less t c =
     let w = c .before .before .before .before .before .before .before .before .before .before .before .before .before .pre .1 .0 in
-    let r = c .before .before .before .before .before .before .before .before .before .before .before .before .before .pre .1 .1 .0 in
-    let e = ap (λ n. s .i + n) (c .before .before .before .before .before .before .before .before .before .span-at .ensures .0) in (
-      taken-more (applies (s .table .now) (s .values .now)) (s .table .now) w (s .running .kind) (s .running .decision) (s .i) (s .end) (s .i + c .before .before .before .before .before .before .before .before .before .span-at .result)
-          (c .before .before .before .before .take .result .kind) (c .before .before .before .before .take .result .decision) (c .before .before .before .before .before .before .before .rule-node .result .decision) (c .before .before .rule-run .result .decision)
-          (r .whole) (c .before .before .before .before .before .before .before .before .before .before .if1 .taken) e (c .before .before .before .before .take .ensures .0) (c .before .before .before .before .take .ensures .1) (c .before .before .before .before .before .before .before .rule-node .ensures .0) (c .before .before .rule-run .ensures .0),
-      gathered-more (s .table .now) w (s .values .now) (s .i) (s .end) (s .i + c .before .before .before .before .before .before .before .before .before .span-at .result) (s .count) (c .before .before .before .before .before .before .before .rule-node .result .count) (c .before .before .rule-run .result .count)
-          (s .cards .now) (c .before .before .before .before .before .before .before .rule-node .last .1 .1 .1 .1 .0) (c .before .before .rule-run .last .1 .1 .1 .1 .1 .0) (c .before .before .before .before .before .before .before .before .before .before .if1 .taken) e r (c .before .before .before .before .before .before .before .rule-node .ensures .1) (c .before .before .rule-run .ensures .1),
-    )
+    omega (arith, w .spans (c .before .before .before .before .before .before .before .before .before .loop .i) (before-some w (c .before .before .before .before .before .before .before .before .before .loop .inv) (c .before .before .before .before .before .before .before .before .loop-test .taken)), c .before .before .before .before .before .before .before .span-at .ensures .0, c .before .before .before .before .before .before .before .before .loop-test .taken)
 
-rule-run-returns-2 : (t : ℕ) → rule-run-lts.Need-returns-2 (rule-run-claims t) (rule-run-at t) rule-run.Post
-rule-run-returns-2 t c =
-    let s = c .before .before .before .args in (
-      taken-none (applies (s .table .now) (s .values .now)) (s .table .now) (c .before .before .before .pre .1 .0) (s .running .kind) (s .running .decision) (s .i) (s .end) (c .if1 .left),
-      gathered-none (s .table .now) (c .before .before .before .pre .1 .0) (s .values .now) (s .i) (s .end) (s .count) (s .cards .now) (c .if1 .left),
-    )
+rule-run-loop-again : (t : ℕ) → rule-run-lts.Need-loop-again (rule-run-claims t) (rule-run-at t) rule-run.Post rule-run-Inv-loop rule-run-μ-loop
+rule-run-loop-again t c =
+    let x = c .before .before .before .rule-node in
+    before-next (c .before .before .before .before .before .before .before .before .before .before .before .before .before .pre .1 .0) (c .before .before .before .before .before .before .before .before .before .loop .inv) (c .before .before .before .before .before .before .before .before .loop-test .taken) (c .before .before .before .before .before .before .before .span-at .ensures .0) (x .ensures .0) (c .take .ensures .0) (c .take .ensures .1) (c .take .ensures .2) (x .ensures .1)
+
+rule-run-loop-less-2 : (t : ℕ) → rule-run-lts.Need-loop-less-2 (rule-run-claims t) (rule-run-at t) rule-run.Post rule-run-Inv-loop rule-run-μ-loop
+rule-run-loop-less-2 t c =
+    let w = c .before .before .before .before .before .before .before .before .pre .1 .0 in
+    omega (arith, w .spans (c .before .before .before .before .loop .i) (before-some w (c .before .before .before .before .loop .inv) (c .before .before .before .loop-test .taken)), c .before .before .span-at .ensures .0, c .before .before .before .loop-test .taken)
+
+rule-run-loop-again-2 : (t : ℕ) → rule-run-lts.Need-loop-again-2 (rule-run-claims t) (rule-run-at t) rule-run.Post rule-run-Inv-loop rule-run-μ-loop
+rule-run-loop-again-2 t c = before-skipped (c .before .before .before .before .before .before .before .before .pre .1 .0) (c .before .before .before .before .loop .inv) (c .before .before .before .loop-test .taken) (c .before .before .span-at .ensures .0) (sym (c .before .target-holds .ensures) ∙ c .if1 .left)
+
+rule-run-same-length : (t : ℕ) → rule-run-lts.Need-same-length (rule-run-claims t) (rule-run-at t) rule-run.Post rule-run-Inv-loop rule-run-μ-loop
+rule-run-same-length t c = gathered-length (c .before .loop .inv .stored)
+
+rule-run-returns : (t : ℕ) → rule-run-lts.Need-returns (rule-run-claims t) (rule-run-at t) rule-run.Post rule-run-Inv-loop rule-run-μ-loop
+rule-run-returns t c = before-end (c .before .before .before .before .before .pre .1 .0) (c .before .loop .inv) (c .loop-test .left)
 
 pub +rule-node+rule-run-spec : {M : Type 1} → statement M
 +rule-node+rule-run-spec = close μ-rule-node μ-rule-run (λ t. rule-node-lts.spec (rule-node-claims t)
     (rule-node-at t)
     rule-node.Post
-    (rule-node-target-holds-requires t)
-    (rule-node-returns t)
     (rule-node-kind-at-requires t)
-    (rule-node-start-requires t)
     (rule-node-add-rule-run t)
     (rule-node-rule-run-requires t)
     (rule-node-card-at-requires t)
     (rule-node-put-requires t)
     (rule-node-effect-of-requires t)
-    (rule-node-add-t21 t)
+    (rule-node-add-t18 t)
     (rule-node-same-length t)
-    (rule-node-returns-2 t)
+    (rule-node-returns t)
     (rule-node-same-length-2 t)
-    (rule-node-returns-3 t))
+    (rule-node-returns-2 t))
     λ t. rule-run-lts.spec (rule-run-claims t)
     (rule-run-at t)
     rule-run.Post
+    rule-run-Inv-loop
+    rule-run-μ-loop
+    (rule-run-start-requires t)
+    (rule-run-loop-holds t)
     (rule-run-span-at-requires t)
     (rule-run-add-next t)
+    (rule-run-target-holds-requires t)
     (rule-run-rule-node-requires t)
     (rule-run-take-requires t)
-    (rule-run-rule-run-requires t)
+    (rule-run-loop-less t)
+    (rule-run-loop-again t)
+    (rule-run-loop-less-2 t)
+    (rule-run-loop-again-2 t)
     (rule-run-same-length t)
     (rule-run-returns t)
-    (rule-run-returns-2 t)
