@@ -1,0 +1,4 @@
+-- What the proofs of several functions use, and other crates' proofs cite.
+pub mod WordPlaces
+pub mod SetNumbers
+pub mod NextNumber
