@@ -1,4 +1,5 @@
 -- What the proofs of several functions use, and the theorems about building.
+pub mod Remembered
 pub mod FieldByField
 pub mod ValueByValue
 pub mod Written

@@ -1,7 +1,7 @@
 -- The walk of a field's values in the lent diagram: what holds before a value, from the first to the last.
 -- Assumes nothing.
 use mathlib.Core.Path.{_≡_, refl, sym, ap, _∙_, subst}
-use mathlib.Core.Bool.{Bool, true, false}
+use mathlib.Core.Bool.{Bool, true, false, _&&_}
 use mathlib.Core.Logic.{⊎-elim}
 use mathlib.Core.List.{List, []}
 use Prim.Native.Nat.{ℕ, suc, _+_, _≤_, _<_}
@@ -9,20 +9,26 @@ use native.Mathlib.Omega.{arith}
 use native.Mathlib.Numerals.{add-one}
 use borrow.Author.Tests.{eqb-true, eqb-false}
 use lib.Dec.{eqb}
-use lib.ListN.{length, getD, take, set, replicate, length-set, length-replicate, getD-replicate}
-use lib.Seq.{getD-set-same, getD-set-other, take-set-le}
+use lib.ListN.{length, getD, set, replicate, length-set, length-replicate, getD-replicate}
+use lib.Seq.{getD-set-same, getD-set-other}
 use Rattle.answer.specs.Fields.{fields}
 use Rattle.table.specs.Layout.{maximum, header}
-use Rattle.ruling.specs.Ruling.{groups}
+use Rattle.sets.specs.Sets.{has}
+use Rattle.sets.specs.declared.Set.{Set}
+use Rattle.ruling.specs.Meaning.{meaning}
+use Rattle.applying.specs.Members.{member}
 use Rattle.diagram.specs.Layout as diagram
 use Rattle.diagram.specs.Layout.{mostPlaces}
 use Rattle.diagram.specs.Entries.{terminal, Edge, node}
-use Rattle.diagram.specs.Walk.{Entries, joined, Entered, enter, extend, below}
+use Rattle.diagram.specs.Walk.{Entries, joined, Entered, enter, extend, Open, below}
 use Rattle.diagram.specs.Decided.{either}
 use Rattle.entering.specs.Edges.{edgesIn}
-use Rattle.entering.specs.Laid.{Laid, Room, NoRoom, Stood, Standing}
-use Rattle.building.specs.Walked.{walkFrom, Rows, Walked, Kept}
-use Rattle.building.proofs.FieldByField.{walk-last, underValue, opened, walk-value, opened-more, edges-more, walk-level, value-begins, begins-length}
+use Rattle.diagram.proofs.EntriesGrow.{enter-begins}
+use Rattle.entering.specs.Laid.{Laid, Room, NoRoom, Standing}
+use Rattle.building.specs.Walked.{walkBy, Stays, Remembers, Near, Held, Left, Leaving, Walked, Rows, Kept}
+use Rattle.building.specs.declared.remembering.Known.{Known}
+use Rattle.building.proofs.Remembered.{walked-stays, remembers-on}
+use Rattle.building.proofs.FieldByField.{walk-last, underValue, opened, walk-value, opened-run, walk-level, value-begins, begins-length}
 
 -- the first n open edges of a field's rows
 abbrev pub edgesOf : List (List ℕ) → List (List ℕ) → ℕ → ℕ → List Edge
@@ -71,25 +77,30 @@ kept-set field before later row a l same =
       above = λ f i. getD-set-other later field f row [] (λ e. omega arith) ∙ a .above f i;
     }
 
--- What holds before value v of a field: the values below v are walked, from the diagram d₀ up to place `start` to the diagram d up to `at`.
-pub record Before (t d₀ : List ℕ) (start field : ℕ) (q : List ℕ) (last₀ child₀ : List (List ℕ)) (d : List ℕ) (last child : List (List ℕ)) (r : List ℕ)
-    (at edges v : ℕ) : Type 0 where
+-- a set and a place, as they are remembered of a neighbour
+known-is : (near : Known) (nodes : Set) (place : ℕ) → near .nodes ≡ nodes → near .place ≡ place → record { nodes = nodes; place = place } ≡ near
+known-is near nodes place en ep = λ k. record { nodes = sym en k; place = sym ep k }
+
+-- What holds before value v of a field, in n places: the values below v are walked, from entries as given to the diagram d up to `at`.
+pub record Before (t : List ℕ) (Given : Entries → Type 0) (n field : ℕ) (nodes : Set) (last₀ child₀ : List (List ℕ)) (d index : List ℕ)
+    (seen last child : List (List ℕ)) (near : Known) (at edges v : ℕ) : Type 0 where
   pub few : edges ≤ v
   pub reached : v ≤ suc (maximum t field)
   pub room : Room (length d) at
-  pub same-length : length d ≡ length d₀
+  pub same-length : length d ≡ n
   pub last-kept : Kept field last₀ last
   pub child-kept : Kept field child₀ child
-  pub prefix : take field r ≡ take field q
-  pub values : length r ≡ fields
-  pub laid : (es : Entries) → Laid es d₀ start → Laid (opened t q field es v .entries) d at
-  pub open-edges : (es : Entries) → Laid es d₀ start → edgesOf last child field edges ≡ opened t q field es v .edges
+  pub near-small : near .place < mostPlaces
+  pub held : (es : Entries) → Given es → Held t (opened t (has nodes) field es v .entries) d index seen at
+  pub neighbour : (es : Entries) → Given es → Near t (field + 1) (opened t (has nodes) field es v .entries) near
+  pub open-edges : (es : Entries) → Given es → edgesOf last child field edges ≡ opened t (has nodes) field es v .edges
 
--- before the first value
-pub before-first : (t d : List ℕ) (start field : ℕ) (q : List ℕ) (last child : List (List ℕ)) → Room (length d) start → Rows last → Rows child →
-    length q ≡ fields → Before t d start field q last child d last child q start 0 0
+-- before the first value, where there is no neighbour
+pub before-first : (t d index : List ℕ) (seen : List (List ℕ)) (start field : ℕ) (nodes : Set) (last child : List (List ℕ)) (near : Known) →
+    Room (length d) start → Rows last → Rows child → near .place ≡ 0 →
+    Before t (λ es. Held t es d index seen start) (length d) field nodes last child d index seen last child near start 0 0
 unfolding below
-before-first t d start field q last child room rl rc l =
+before-first t d index seen start field nodes last child near room rl rc none =
     record {
       few = omega arith;
       reached = omega arith;
@@ -97,102 +108,139 @@ before-first t d start field q last child room rl rc l =
       same-length = refl;
       last-kept = kept-itself field last rl;
       child-kept = kept-itself field child rc;
-      prefix = refl;
-      values = l;
-      laid = λ es h. h;
-      open-edges = λ es h. refl;
+      near-small = omega arith;
+      held = λ es g. g;
+      neighbour = λ es g some. absurd (some none);
+      open-edges = λ es g. refl;
     }
 
--- the outcome, where as many places were lent
-standing-of : (x y : Entered) (n m : ℕ) (d : List ℕ) (full : Bool) (end place : ℕ) → x ≡ y → n ≡ m → Standing x n d full end place →
-    Standing y m d full end place
-standing-of x y n m d full end place e l s =
-    subst (λ k. Standing y k d full end place) l (subst (λ z. Standing z n d full end place) e s)
+-- the outcome of a walk that gives the same
+leaving-of : (t : List ℕ) (x y : Entered) (n : ℕ) (d index : List ℕ) (seen : List (List ℕ)) (full : Bool) (end place : ℕ) → x ≡ y →
+    Leaving t x n d index seen full end place → Leaving t y n d index seen full end place
+leaving-of t x y n d index seen full end place e s = subst (λ z. Leaving t z n d index seen full end place) e s
+
+-- the outcome of entering one entry more, among entries of which something is remembered
+entered-leaves : (t : List ℕ) (es : Entries) (e : List ℕ) (n : ℕ) (d index : List ℕ) (seen : List (List ℕ)) (full : Bool) (end place : ℕ) →
+    Remembers t es seen → Standing (enter (diagram.header fields) es e) n d index full end place →
+    Leaving t (enter (diagram.header fields) es e) n d index seen full end place
+entered-leaves t es e n d index seen true end place r s = s
+entered-leaves t es e n d index seen false end place r s =
+    let x = enter (diagram.header fields) es e in
+    record {
+      held = record { laid = s .laid; remembered = remembers-on t es (x .entries) seen r (enter-begins e (diagram.header fields) es) };
+      at = s .at;
+    }
 
 -- after the last field
-pub walked-last : (t d d′ : List ℕ) (start field : ℕ) (q : List ℕ) (full : Bool) (end place : ℕ) → field ≡ fields → length q ≡ fields →
-    Room (length d) end → place < mostPlaces →
-    ((es : Entries) → Laid es d start → Standing (enter (diagram.header fields) es (terminal (groups t q))) (length d) d′ full end place) →
-    Walked t d d′ start field q full end place
-walked-last t d d′ start field q full end place e l room small stands =
+pub walked-last : (t d index d′ index′ : List ℕ) (seen : List (List ℕ)) (start field : ℕ) (nodes : Set) (full : Bool) (end place : ℕ) →
+    field ≡ fields → Room (length d) end → place < mostPlaces →
+    ((es : Entries) → Laid es d index start → Standing (enter (diagram.header fields) es (terminal (meaning (has nodes) t))) (length d) d′ index′ full end place) →
+    Walked t (λ es. Held t es d index seen start) field nodes (length d) d′ index′ seen full end place
+walked-last t d index d′ index′ seen start field nodes full end place e room small stands =
     record {
       room = room;
       place-small = small;
-      outcome = λ es h. subst (λ x. Standing x (length d) d′ full end place) (sym (walk-last t q field es e l)) (stands es h);
+      outcome = λ es h.
+          leaving-of t (enter (diagram.header fields) es (terminal (meaning (has nodes) t))) (walkBy t field (has nodes) es) (length d) d′ index′ seen full end place
+          (sym (walk-last t (has nodes) field es e))
+          (entered-leaves t es (terminal (meaning (has nodes) t)) (length d) d′ index′ seen full end place (h .remembered) (stands es (h .laid)));
     }
 
-module _ (t d₀ : List ℕ) (start field : ℕ) (q : List ℕ) (last₀ child₀ : List (List ℕ)) (d : List ℕ) (last child : List (List ℕ)) (r : List ℕ)
-    (at edges v : ℕ) (b : Before t d₀ start field q last₀ child₀ d last child r at edges v) (h : header ≤ length t) (l : field < fields) where
-  -- value v was walked
-  module _ (more : v ≤ maximum t field) (d′ : List ℕ) (full : Bool) (end place : ℕ)
-      (w : Walked t d d′ at (field + 1) (set r field v) full end place) where
+module _ (t : List ℕ) (Given : Entries → Type 0) (n field : ℕ) (nodes : Set) (last₀ child₀ : List (List ℕ)) (d index : List ℕ)
+    (seen last child : List (List ℕ)) (near : Known) (at edges v : ℕ)
+    (b : Before t Given n field nodes last₀ child₀ d index seen last child near at edges v) (h : header ≤ length t) (l : field < fields) where
+  -- the entries once the values below v are walked
+  abbrev entriesAt : Entries → Entries
+  entriesAt es = opened t (has nodes) field es v .entries
+
+  -- all under value v
+  abbrev underIt : Entries → Entered
+  underIt es = underValue t (has nodes) field v (entriesAt es)
+
+  -- value v was walked, with the nodes that are left at v
+  module _ (more : v ≤ maximum t field) (here : Set) (meets : (i : ℕ) → has here i ≡ has nodes i && member t field v i)
+      (d′ index′ : List ℕ) (seen′ : List (List ℕ)) (full : Bool) (end place : ℕ)
+      (w : Walked t (λ es. Held t es d index seen at × Near t (field + 1) es near) (field + 1) here (length d) d′ index′ seen′ full end place) where
+    same-walk : (xs : Entries) → walkBy t (field + 1) (has here) xs ≡ underValue t (has nodes) field v xs
+    same-walk xs = walk-value t (has nodes) (has here) field v xs meets
+
     -- what is left of it, as of the values below it
-    value-stands : (es : Entries) → Laid es d₀ start →
-        Standing (underValue t q field v (opened t q field es v .entries)) (length d₀) d′ full end place
-    value-stands es g =
-        let xs = opened t q field es v .entries in
-        standing-of (walkFrom t (field + 1) (set r field v) xs) (underValue t q field v xs) (length d) (length d₀) d′ full end place
-        (walk-value t q r field v xs (omega (arith, b .values)) (b .prefix)) (b .same-length) (w .outcome xs (b .laid es g))
+    value-leaves : (es : Entries) → Given es → Leaving t (underIt es) n d′ index′ seen′ full end place
+    value-leaves es g =
+        subst (λ k. Leaving t (underIt es) k d′ index′ seen′ full end place) (b .same-length)
+        (leaving-of t (walkBy t (field + 1) (has here) (entriesAt es)) (underIt es) (length d) d′ index′ seen′ full end place
+        (same-walk (entriesAt es)) (w .outcome (entriesAt es) (b .held es g, b .neighbour es g)))
 
     -- there was no room
-    pub value-full : full ≡ true → Walked t d₀ d′ start field q full end place
+    pub value-full : full ≡ true → Walked t Given field nodes n d′ index′ seen′ full end place
     value-full f =
         record {
-          room = subst (λ n. Room n end) (b .same-length) (w .room);
+          room = subst (λ k. Room k end) (b .same-length) (w .room);
           place-small = w .place-small;
           outcome = λ es g.
-              let xs = opened t q field es v .entries in
-              let none : NoRoom (underValue t q field v xs) (length d₀) =
-              subst (λ c. Standing (underValue t q field v xs) (length d₀) d′ c end place) f (value-stands es g) in
-              let lens : length (joined (underValue t q field v xs .entries)) ≤ length (joined (walkFrom t field q es .entries)) =
-              begins-length (underValue t q field v xs .entries) (walkFrom t field q es .entries) (value-begins t q field es h l v more) in
-              let over : NoRoom (walkFrom t field q es) (length d₀) = omega arith in
-              subst (λ c. Standing (walkFrom t field q es) (length d₀) d′ c end place) (sym f) over;
+              let none : NoRoom (underIt es) n = subst (λ c. Leaving t (underIt es) n d′ index′ seen′ c end place) f (value-leaves es g) in
+              let lens : length (joined (underIt es .entries)) ≤ length (joined (walkBy t field (has nodes) es .entries)) =
+              begins-length (underIt es .entries) (walkBy t field (has nodes) es .entries) (value-begins t (has nodes) field es h l v more) in
+              let over : NoRoom (walkBy t field (has nodes) es) n = omega arith in
+              subst (λ c. Leaving t (walkBy t field (has nodes) es) n d′ index′ seen′ c end place) (sym f) over;
         }
 
-    -- it stands, and is among the open edges
-    pub value-next : full ≡ false → length d′ ≡ length d → (last₁ child₁ : List (List ℕ)) → Kept (field + 1) last last₁ → Kept (field + 1) child child₁ →
+    -- it stands, with all values of its run, is among the open edges, and is the next value's neighbour
+    pub value-next : (until : ℕ) → v ≤ until →
+        ((u : ℕ) → v ≤ u → u ≤ until → (u ≤ maximum t field) × ((i : ℕ) → member t field u i ≡ member t field v i)) →
+        full ≡ false → length d′ ≡ length d → (last₁ child₁ : List (List ℕ)) → Kept (field + 1) last last₁ → Kept (field + 1) child child₁ →
         (lasts children : List ℕ) (edges′ : ℕ) → length lasts ≡ length (getD last₁ field []) → length children ≡ length (getD child₁ field []) →
-        edges′ ≤ edges + 1 → edgesIn lasts children edges′ ≡ extend (edgesOf last₁ child₁ field edges) v place →
-        Before t d₀ start field q last₀ child₀ d′ (set last₁ field lasts) (set child₁ field children) (set r field v) end edges′ (v + 1)
-    value-next f same last₁ child₁ kl kc lasts children edges′ sl sc few e =
-        let stood : (es : Entries) → Laid es d₀ start → Stood (underValue t q field v (opened t q field es v .entries)) d′ end place =
-        λ es g. subst (λ c. Standing (underValue t q field v (opened t q field es v .entries)) (length d₀) d′ c end place) f (value-stands es g) in
+        edges′ ≤ edges + 1 → edgesIn lasts children edges′ ≡ extend (edgesOf last₁ child₁ field edges) until place →
+        (next : Known) → next .nodes ≡ here → next .place ≡ place →
+        Before t Given n field nodes last₀ child₀ d′ index′ seen′ (set last₁ field lasts) (set child₁ field children) next end edges′ (until + 1)
+    value-next until far alike f same last₁ child₁ kl kc lasts children edges′ sl sc few e next en ep =
+        let left : (es : Entries) → Given es → Left t (underIt es) d′ index′ seen′ end place =
+        λ es g. subst (λ c. Leaving t (underIt es) n d′ index′ seen′ c end place) f (value-leaves es g) in
+        let opens : (es : Entries) →
+        opened t (has nodes) field es (until + 1)
+        ≡ record { entries = underIt es .entries; edges = extend (opened t (has nodes) field es v .edges) until (underIt es .place) } =
+        λ es. ap (opened t (has nodes) field es) (add-one until) ∙ opened-run t (has nodes) field es v until far (λ u g k. alike u g k .1) in
+        let grown : (es : Entries) → opened t (has nodes) field es (until + 1) .entries ≡ underIt es .entries =
+        λ es. ap (λ (o : Open). o .entries) (opens es) in
         record {
           few = omega arith;
-          reached = omega arith;
-          room = subst (λ n. Room n end) (sym same) (w .room);
+          reached = omega (arith, alike until far (omega arith) .0);
+          room = subst (λ k. Room k end) (sym same) (w .room);
           same-length = same ∙ b .same-length;
           last-kept = kept-set field last₀ last₁ lasts (kept-on field last₀ last last₁ (b .last-kept) kl) l sl;
           child-kept = kept-set field child₀ child₁ children (kept-on field child₀ child child₁ (b .child-kept) kc) l sc;
-          prefix = take-set-le field r field v (omega arith) ∙ b .prefix;
-          values = length-set r field v ∙ b .values;
-          laid = λ es g.
-              subst (λ n. Laid (opened t q field es n .entries) d′ end) (sym (add-one v))
-              (subst (λ xs. Laid xs d′ end) (sym (opened-more t q field es v)) (stood es g .laid));
+          near-small = omega (arith, w .place-small);
+          held = λ es g. subst (λ xs. Held t xs d′ index′ seen′ end) (sym (grown es)) (left es g .held);
+          neighbour = λ es g some.
+              let x = walkBy t (field + 1) (has here) (entriesAt es) in
+              subst (λ (k : Known). Stays t (field + 1) (k .nodes) (opened t (has nodes) field es (until + 1) .entries) (k .place)) (known-is next here place en ep)
+              (subst (λ xs. Stays t (field + 1) here xs place) (sym (grown es))
+              (subst (λ c. Stays t (field + 1) here (underIt es .entries) c) (sym (left es g .at))
+              (subst (λ (y : Entered). Stays t (field + 1) here (y .entries) (y .place)) (same-walk (entriesAt es))
+              (walked-stays t (field + 1) here (entriesAt es)))));
           open-edges = λ es g.
-              let o = opened t q field es v in
+              let o = opened t (has nodes) field es v in
               rw (row-set last₁ field lasts (kl .rows) l, row-set child₁ field children (kc .rows) l)
               (e
-              ∙ ap (λ x. extend x v place) (rw (kl .above field (omega arith), kc .above field (omega arith)) (b .open-edges es g))
-              ∙ ap (extend (o .edges) v) (stood es g .at)
-              ∙ sym (edges-more t q field es v)
-              ∙ ap (λ n. opened t q field es n .edges) (sym (add-one v)));
+              ∙ ap (λ x. extend x until place) (rw (kl .above field (omega arith), kc .above field (omega arith)) (b .open-edges es g))
+              ∙ ap (extend (o .edges) until) (left es g .at)
+              ∙ sym (ap (λ (x : Open). x .edges) (opens es)));
         }
 
   -- all values are walked, and the node is entered
-  pub values-done : v ≡ suc (maximum t field) → (d′ : List ℕ) (full : Bool) (end place : ℕ) → Room (length d) end → place < mostPlaces →
-      ((es : Entries) → Laid es d at →
-      Standing (enter (diagram.header fields) es (node (field + 1) (edgesOf last child field edges))) (length d) d′ full end place) →
-      Walked t d₀ d′ start field q full end place
-  values-done e d′ full end place room small stands =
+  pub values-done : v ≡ suc (maximum t field) → (d′ index′ : List ℕ) (full : Bool) (end place : ℕ) → Room (length d) end → place < mostPlaces →
+      ((es : Entries) → Laid es d index at →
+      Standing (enter (diagram.header fields) es (node (field + 1) (edgesOf last child field edges))) (length d) d′ index′ full end place) →
+      Walked t Given field nodes n d′ index′ seen full end place
+  values-done e d′ index′ full end place room small stands =
       record {
-        room = subst (λ n. Room n end) (b .same-length) room;
+        room = subst (λ k. Room k end) (b .same-length) room;
         place-small = small;
         outcome = λ es g.
-            let o = opened t q field es v in
-            standing-of (enter (diagram.header fields) (o .entries) (node (field + 1) (edgesOf last child field edges))) (walkFrom t field q es)
-            (length d) (length d₀) d′ full end place
-            (ap (λ x. enter (diagram.header fields) (o .entries) (node (field + 1) x)) (b .open-edges es g) ∙ sym (walk-level t q field es h l v e))
-            (b .same-length) (stands (o .entries) (b .laid es g));
+            let o = opened t (has nodes) field es v in
+            let x = node (field + 1) (edgesOf last child field edges) in
+            subst (λ k. Leaving t (walkBy t field (has nodes) es) k d′ index′ seen full end place) (b .same-length)
+            (leaving-of t (enter (diagram.header fields) (o .entries) x) (walkBy t field (has nodes) es) (length d) d′ index′ seen full end place
+            (ap (λ y. enter (diagram.header fields) (o .entries) (node (field + 1) y)) (b .open-edges es g) ∙ sym (walk-level t (has nodes) field es h l v e))
+            (entered-leaves t (o .entries) x (length d) d′ index′ seen full end place (b .held es g .remembered) (stands (o .entries) (b .held es g .laid))));
       }

@@ -13,8 +13,7 @@ use Rattle.answer.proofs.Stored.{stored-on}
 use Rattle.table.specs.Layout.{maximum, maxima, header}
 use Rattle.table.specs.WellFormed.{WellFormed}
 use Rattle.table.proofs.Maxima.{maxima-length, maxima-each}
-use Rattle.ruling.specs.Targets.{applies}
-use Rattle.ruling.specs.Ruling.{groups}
+use Rattle.ruling.specs.Meaning.{meaning}
 use Rattle.ruling.proofs.AtMost127Cards.{few-cards}
 use Rattle.diagram.specs.Layout as diagram
 use Rattle.diagram.specs.Entries.{terminal}
@@ -22,29 +21,29 @@ use Rattle.diagram.specs.Walk.{Entries, enter}
 use Rattle.entering.specs.Laid.{Laid, Standing}
 use Rattle.entering.proofs.NumbersWritten.{start-is}
 
--- A ruling stored in a list with room for 127 cards is that of the groups.
-module _ (t q list stored : List ℕ) (decision count : ℕ) (w : WellFormed t) (room : length list ≡ 127)
-    (ed : decision ≡ groups t q .decision) (ec : count ≡ length (groups t q .cards)) (es : stored ≡ sets list 0 (groups t q .cards)) where
+-- A ruling stored in a list with room for 127 cards is that of the groups, where the nodes a apply.
+module _ (t : List ℕ) (a : ℕ → Bool) (list stored : List ℕ) (decision count : ℕ) (w : WellFormed t) (room : length list ≡ 127)
+    (ed : decision ≡ meaning a t .decision) (ec : count ≡ length (meaning a t .cards)) (es : stored ≡ sets list 0 (meaning a t .cards)) where
   pub few-counted : count ≤ 127
-  few-counted = omega (arith, few-cards (applies t q) t w)
+  few-counted = omega (arith, few-cards a t w)
 
   -- the stored list has them all
   pub stored-long : count ≤ length stored
-  stored-long = omega (arith, few-counted, ap length es, length-sets list 0 (groups t q .cards))
+  stored-long = omega (arith, few-counted, ap length es, length-sets list 0 (meaning a t .cards))
 
-  ruling-stored : record { decision = decision; cards = take count stored } ≡ groups t q
+  ruling-stored : record { decision = decision; cards = take count stored } ≡ meaning a t
   ruling-stored =
-      let cs : take count stored ≡ groups t q .cards =
-      start-is list (groups t q .cards) stored count es ec (omega (arith, few-cards (applies t q) t w)) in
-      ap (λ n. record { decision = n; cards = take count stored }) ed ∙ ap (λ ns. record { decision = groups t q .decision; cards = ns }) cs
+      let cs : take count stored ≡ meaning a t .cards = start-is list (meaning a t .cards) stored count es ec (omega (arith, few-cards a t w)) in
+      ap (λ n. record { decision = n; cards = take count stored }) ed ∙ ap (λ ns. record { decision = meaning a t .decision; cards = ns }) cs
 
   -- so what was entered for it was entered for them
-  pub ruling-entered : (d d′ : List ℕ) (start : ℕ) (full : Bool) (end place : ℕ) →
-      ((es : Entries) → Laid es d start →
-      Standing (enter (diagram.header fields) es (terminal (record { decision = decision; cards = take count stored }))) (length d) d′ full end place) →
-      (es : Entries) → Laid es d start → Standing (enter (diagram.header fields) es (terminal (groups t q))) (length d) d′ full end place
-  ruling-entered d d′ start full end place stands es l =
-      subst (λ r. Standing (enter (diagram.header fields) es (terminal r)) (length d) d′ full end place) ruling-stored (stands es l)
+  pub ruling-entered : (d index d′ index′ : List ℕ) (start : ℕ) (full : Bool) (end place : ℕ) →
+      ((es : Entries) → Laid es d index start →
+      Standing (enter (diagram.header fields) es (terminal (record { decision = decision; cards = take count stored }))) (length d) d′ index′ full end place) →
+      (es : Entries) → Laid es d index start →
+      Standing (enter (diagram.header fields) es (terminal (meaning a t))) (length d) d′ index′ full end place
+  ruling-entered d index d′ index′ start full end place stands es l =
+      subst (λ r. Standing (enter (diagram.header fields) es (terminal r)) (length d) d′ index′ full end place) ruling-stored (stands es l)
 
 -- the numbers of the header: the places used, the place of the root and the maxima
 abbrev pub headOf : ℕ → ℕ → List ℕ → List ℕ

@@ -1,5 +1,6 @@
 // Building the diagram of a table, in the room that is lent.
 mod header;
+mod remembering;
 mod walking;
 mod whole;
 

@@ -3,3 +3,4 @@ pub mod OpenEdges
 pub mod NumbersWritten
 pub mod Seeking
 pub mod LaidOut
+pub mod Indexing

@@ -84,13 +84,13 @@ node-written room last child level n j now w h g =
 
 -- how many numbers there are
 
-pub node-length : (last child : List ℕ) (level n : ℕ) → length (node level (edgesIn last child n)) ≡ 2 + 2 * n
+pub node-length : (last child : List ℕ) (level n : ℕ) (part : List ℕ) → part ≡ node level (edgesIn last child n) → length part ≡ 2 + 2 * n
 unfolding node
-node-length last child level n = omega (arith, edge-numbers-length (edgesIn last child n), edges-length last child n)
+node-length last child level n part w = ap length w ∙ omega (arith, edge-numbers-length (edgesIn last child n), edges-length last child n)
 
-pub terminal-length : (decision : ℕ) (cards : List ℕ) → length (terminal (record { decision = decision; cards = cards })) ≡ 3 + length cards
+pub terminal-length : (decision : ℕ) (cards part : List ℕ) → part ≡ terminal (record { decision = decision; cards = cards }) → length part ≡ 3 + length cards
 unfolding terminal
-terminal-length decision cards = omega arith
+terminal-length decision cards part w = ap length w ∙ omega arith
 
 -- three numbers stored move no end
 pub three-kept : (room : List ℕ) (i j k a b c : ℕ) → length (set (set (set room i a) j b) k c) ≡ length room

@@ -31,7 +31,7 @@ same-no x y h = test (same x y) refl
     test false e = refl
 
 -- an entry's size is read where it stands
-entry-size : (d : List ℕ) (p : ℕ) (e : List ℕ) → IsEntry e → Stands d p e → sizeAt d p ≡ length e
+pub entry-size : (d : List ℕ) (p : ℕ) (e : List ℕ) → IsEntry e → Stands d p e → sizeAt d p ≡ length e
 entry-size d p e i s =
     ⊎-elim
     (λ w. terminal-size d p (w .0) (subst (Stands d p) (w .1) s) ∙ sym (ap length (w .1)))
@@ -43,8 +43,8 @@ stands-front : (d : List ℕ) (p : ℕ) (x y : List ℕ) → Stands d p (x ++ y)
 stands-front d p x y s = record { rest = y ++ s .rest; is = s .is ∙ append-assoc x y (s .rest) }
 
 -- the entries stand after the header
-laid-stands : (es : Entries) (d : List ℕ) (end : ℕ) → Laid es d end → Stands d (header fields) (joined es)
-laid-stands es d end l = record {
+laid-stands : (es : Entries) (d index : List ℕ) (end : ℕ) → Laid es d index end → Stands d (header fields) (joined es)
+laid-stands es d index end l = record {
   rest = zeros (length d - length (zeros (header fields) ++ joined es));
   is =
       ap (drop (header fields)) (l .is ∙ append-assoc (zeros (header fields)) (joined es) (zeros (length d - length (zeros (header fields) ++ joined es))))
@@ -60,15 +60,15 @@ pub record Left (es : Entries) (d : List ℕ) (end : ℕ) (e : List ℕ) (p : �
 
 -- some are left, of those laid
 abbrev pub Seeks : List ℕ → ℕ → List ℕ → ℕ → Type 0
-Seeks d end e p = (es : Entries) → Laid es d end → (ys : Entries) × Left es d end e p ys
+Seeks d end e p = (es : Entries) (index : List ℕ) → Laid es d index end → (ys : Entries) × Left es d end e p ys
 
 module _ (d : List ℕ) (end : ℕ) (e : List ℕ) where
   pub seek-starts : Seeks d end e (header fields)
-  seek-starts es l = (es, record { stand = laid-stands es d end l; ends = l .ends; formed = l .formed; found = refl })
+  seek-starts es index l = (es, record { stand = laid-stands es d index end l; ends = l .ends; formed = l .formed; found = refl })
 
   -- what is left to search is the answer's place
   abbrev pub Found : ℕ → Type 0
-  Found p = (es : Entries) → Laid es d end → p ≡ enter (header fields) es e .place
+  Found p = (es : Entries) (index : List ℕ) → Laid es d index end → p ≡ enter (header fields) es e .place
 
   module _ (p : ℕ) (seeks : Seeks d end e p) where
     -- the first entry left is read at p
@@ -77,7 +77,7 @@ module _ (d : List ℕ) (end : ℕ) (e : List ℕ) where
 
     -- it does not reach past the end
     pub seek-within : p < end → end - p < sizeAt d p → Found end
-    seek-within h k es l = absurd (go (seeks es l .0) (seeks es l .1))
+    seek-within h k es index l = absurd (go (seeks es index l .0) (seeks es index l .1))
       where
         go : (ys : Entries) → Left es d end e p ys → ⊥
         go [] s = omega (arith, s .ends)
@@ -91,7 +91,7 @@ module _ (d : List ℕ) (end : ℕ) (e : List ℕ) where
 
       -- it is equal
       pub seek-found : true ≡ same (take (p + size - p) (drop p d)) e → Found p
-      seek-found t es l = go (seeks es l .0) (seeks es l .1)
+      seek-found t es index l = go (seeks es index l .0) (seeks es index l .1)
         where
           go : (ys : Entries) → Left es d end e p ys → p ≡ enter (header fields) es e .place
           go [] s = absurd (omega (arith, s .ends))
@@ -100,7 +100,7 @@ module _ (d : List ℕ) (end : ℕ) (e : List ℕ) where
 
       -- it is another
       pub seek-on : false ≡ same (take (p + size - p) (drop p d)) e → Seeks d end e (p + size)
-      seek-on t es l = go (seeks es l .0) (seeks es l .1)
+      seek-on t es index l = go (seeks es index l .0) (seeks es index l .1)
         where
           go : (ys : Entries) → Left es d end e p ys → (zs : Entries) × Left es d end e (p + size) zs
           go [] s = absurd (omega (arith, s .ends))
@@ -121,7 +121,7 @@ module _ (d : List ℕ) (end : ℕ) (e : List ℕ) where
     -- nothing is left
     pub seek-ends : p ≡ end → Found end
     unfolding enter
-    seek-ends h es l = go (seeks es l .0) (seeks es l .1)
+    seek-ends h es index l = go (seeks es index l .0) (seeks es index l .1)
       where
         go : (ys : Entries) → Left es d end e p ys → end ≡ enter (header fields) es e .place
         go [] s = sym h ∙ sym (s .found)

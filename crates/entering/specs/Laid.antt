@@ -1,4 +1,4 @@
--- A lent diagram while it is built, and what entering one more entry leaves (for the contracts inside).
+-- A lent diagram while it is built, with the index of its entries, and what entering one more entry leaves (for the contracts inside).
 -- Assumes nothing: these are definitions.
 use mathlib.Core.Bool.{Bool, true, false}
 use mathlib.Core.List.{List, [], _∷_, _++_}
@@ -12,6 +12,7 @@ use Rattle.answer.specs.Rulings.{Ruling}
 use Rattle.diagram.specs.Layout.{header, mostPlaces}
 use Rattle.diagram.specs.Entries.{terminal, Edge, node}
 use Rattle.diagram.specs.Walk.{Entries, joined, Entered}
+use Rattle.entering.specs.Index.{Indexed}
 
 -- the numbers of a terminal or of a node
 abbrev pub IsEntry : List ℕ → Type 0
@@ -23,10 +24,12 @@ AllEntries [] = Unit {0}
 AllEntries (e ∷ es) = IsEntry e × AllEntries es
 
 -- Of the lent diagram d, the entries es take the places from the end of the header up to, not including, `end`; every other place is 0.
-pub record Laid (es : Entries) (d : List ℕ) (end : ℕ) : Type 0 where
+-- The index is right about them.
+pub record Laid (es : Entries) (d index : List ℕ) (end : ℕ) : Type 0 where
   pub is : d ≡ padded (zeros (header fields) ++ joined es) (length d)
   pub ends : header fields + length (joined es) ≡ end
   pub formed : AllEntries es
+  pub indexed : Indexed es index
 
 -- of n places, those before `end` may be taken
 abbrev pub Room : ℕ → ℕ → Type 0
@@ -36,22 +39,23 @@ Room n end = (header fields ≤ end) × (end ≤ n) × (end ≤ mostPlaces)
 abbrev pub NoRoom : Entered → ℕ → Type 0
 NoRoom x n = min mostPlaces n < header fields + length (joined (x .entries))
 
--- the entries of x end at `end`, and what was entered stands at `place`
-pub record Settled (x : Entered) (end place : ℕ) : Type 0 where
+-- the entries of x end at `end`, what was entered stands at `place`, and the index is right about them
+pub record Settled (x : Entered) (index : List ℕ) (end place : ℕ) : Type 0 where
   pub ends : header fields + length (joined (x .entries)) ≡ end
   pub at : place ≡ x .place
+  pub indexed : Indexed (x .entries) index
 
 -- where an entry stands or is to stand, before it is written
-abbrev pub Settling : Entered → ℕ → Bool → ℕ → ℕ → Type 0
-Settling x n true end place = NoRoom x n
-Settling x n false end place = Settled x end place
+abbrev pub Settling : Entered → ℕ → List ℕ → Bool → ℕ → ℕ → Type 0
+Settling x n index true end place = NoRoom x n
+Settling x n index false end place = Settled x index end place
 
 -- the entries of x stand in d up to `end`, and what was entered at `place`
-pub record Stood (x : Entered) (d : List ℕ) (end place : ℕ) : Type 0 where
-  pub laid : Laid (x .entries) d end
+pub record Stood (x : Entered) (d index : List ℕ) (end place : ℕ) : Type 0 where
+  pub laid : Laid (x .entries) d index end
   pub at : place ≡ x .place
 
 -- what is left once it is written
-abbrev pub Standing : Entered → ℕ → List ℕ → Bool → ℕ → ℕ → Type 0
-Standing x n d true end place = NoRoom x n
-Standing x n d false end place = Stood x d end place
+abbrev pub Standing : Entered → ℕ → List ℕ → List ℕ → Bool → ℕ → ℕ → Type 0
+Standing x n d index true end place = NoRoom x n
+Standing x n d index false end place = Stood x d index end place

@@ -1,4 +1,5 @@
 // Entering a terminal or a node: "only if no equal entry stands; an equal one is pointed to".
+use crate::finding::SLOTS;
 use crate::finding::Step;
 use crate::finding::settle;
 use crate::writing::MOST_EDGES;
@@ -17,14 +18,20 @@ ghost use Rattle.entering.specs.Edges.{edgesIn};
 ghost use Rattle.entering.specs.Laid.{Laid, Room, Standing};
 
 // Enters a terminal: a new one is written into the part of the diagram that starts after the last entry.
-pub fn enter_terminal(diagram: &mut [u16], end: usize, decision: u8, cards: &[u16]) -> Step
+pub fn enter_terminal(
+    diagram: &mut [u16],
+    end: usize,
+    index: &mut [u16; SLOTS],
+    decision: u8,
+    cards: &[u16],
+) -> Step
     requires { ⌜ Room (length (now diagram)) end × (length (now cards) ≤ 127) ⌝ }
     ensures { λ r. ⌜ Room (length (now (diagram .entry))) (r .end) × (r .place < mostPlaces) ⌝ }
-    ensures { λ r. ⌜ ((es : Entries) → Laid es (now (diagram .entry)) end → Standing (enter (header fields) es (terminal (record { decision = decision; cards = now (cards .entry) }))) (length (now (diagram .entry))) (now (diagram .exit)) (r .full) (r .end) (r .place)) ⌝ }
+    ensures { λ r. ⌜ ((es : Entries) → Laid es (now (diagram .entry)) (now (index .entry)) end → Standing (enter (header fields) es (terminal (record { decision = decision; cards = now (cards .entry) }))) (length (now (diagram .entry))) (now (diagram .exit)) (now (index .exit)) (r .full) (r .end) (r .place)) ⌝ }
 {
     let mut entry = [0u16; TERMINAL];
     let size = write_terminal(&mut entry, decision, cards);
-    let step = settle(diagram, end, &entry[..size]);
+    let step = settle(diagram, end, index, &entry[..size]);
     if step.place < end {
         return step;
     }
@@ -36,6 +43,7 @@ pub fn enter_terminal(diagram: &mut [u16], end: usize, decision: u8, cards: &[u1
 pub fn enter_node(
     diagram: &mut [u16],
     end: usize,
+    index: &mut [u16; SLOTS],
     level: u16,
     last: &[u16; MOST_EDGES],
     child: &[u16; MOST_EDGES],
@@ -43,11 +51,11 @@ pub fn enter_node(
 ) -> Step
     requires { ⌜ Room (length (now diagram)) end × ((1 ≤ level) × (edges ≤ 256)) ⌝ }
     ensures { λ r. ⌜ Room (length (now (diagram .entry))) (r .end) × (r .place < mostPlaces) ⌝ }
-    ensures { λ r. ⌜ ((es : Entries) → Laid es (now (diagram .entry)) end → Standing (enter (header fields) es (node level (edgesIn (now (last .entry)) (now (child .entry)) edges))) (length (now (diagram .entry))) (now (diagram .exit)) (r .full) (r .end) (r .place)) ⌝ }
+    ensures { λ r. ⌜ ((es : Entries) → Laid es (now (diagram .entry)) (now (index .entry)) end → Standing (enter (header fields) es (node level (edgesIn (now (last .entry)) (now (child .entry)) edges))) (length (now (diagram .entry))) (now (diagram .exit)) (now (index .exit)) (r .full) (r .end) (r .place)) ⌝ }
 {
     let mut entry = [0u16; NODE];
     let size = write_node(&mut entry, level, last, child, edges);
-    let step = settle(diagram, end, &entry[..size]);
+    let step = settle(diagram, end, index, &entry[..size]);
     if step.place < end {
         return step;
     }

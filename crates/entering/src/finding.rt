@@ -1,15 +1,22 @@
-// Where an entry stands: an equal one is found wherever it is, by comparing at the places where entries start.
+// Where an entry stands: an equal one is found wherever it is, by the index, or by comparing at all places where entries start.
 use diagram::HEADER;
 use diagram::MOST_PLACES;
 use diagram::layout::size_at;
 ghost use mathlib.Core.Path.{_≡_};
 ghost use mathlib.Core.Bool.{true, false};
-ghost use Prim.Native.Nat.{_+_, _≤_, _<_};
-ghost use lib.ListN.{length};
+ghost use mathlib.Core.List.{List};
+ghost use Prim.Native.Nat.{ℕ, _+_, _≤_, _<_};
+ghost use lib.ListN.{length, set};
 ghost use Rattle.answer.specs.Fields.{fields};
 ghost use Rattle.diagram.specs.Layout.{header, mostPlaces};
 ghost use Rattle.diagram.specs.Walk.{Entries, same, enter};
+ghost use Rattle.entering.specs.Index.{slots, hashed, equalAt, Finding};
 ghost use Rattle.entering.specs.Laid.{Laid, Room, Settling};
+
+// How many slots the index has, and how many of them are tried for an entry.
+pub const SLOTS: usize = 8192;
+
+const TRIES: usize = 32;
 
 // What entering leaves: the place after the last entry, the place of what was entered, and whether there was no room.
 pub struct Step {
@@ -36,11 +43,11 @@ fn equal(a: &[u16], b: &[u16]) -> bool
     true
 }
 
-// The place of the first entry before `end` that is equal; `end` where there is none.
-fn find(diagram: &[u16], end: usize, entry: &[u16]) -> usize
+// The place of the first entry before `end` that is equal, by comparing with each; `end` where there is none.
+fn scan(diagram: &[u16], end: usize, entry: &[u16]) -> usize
     requires { ⌜ Room (length (now diagram)) end ⌝ }
     ensures { λ r. ⌜ r ≤ end ⌝ }
-    ensures { λ r. ⌜ ((es : Entries) → Laid es (now (diagram .entry)) end → r ≡ enter (header fields) es (now (entry .entry)) .place) ⌝ }
+    ensures { λ r. ⌜ ((es : Entries) (index : List ℕ) → Laid es (now (diagram .entry)) index end → r ≡ enter (header fields) es (now (entry .entry)) .place) ⌝ }
 {
     let mut place = HEADER;
     while place < end {
@@ -57,18 +64,94 @@ fn find(diagram: &[u16], end: usize, entry: &[u16]) -> usize
     end
 }
 
-// Where an entry stands, or is to stand after the last one, if there is room.
-pub(crate) fn settle(diagram: &[u16], end: usize, entry: &[u16]) -> Step
+// A number made from those of an entry.
+fn hash(entry: &[u16]) -> usize
+    ensures { λ r. ⌜ (r ≡ hashed 0 (now (entry .entry))) × (r < 65536) ⌝ }
+{
+    let n = entry.len();
+    let mut h: usize = 0;
+    let mut i = 0;
+    while i < n {
+        h = (h * 40503 + entry[i] as usize) % 65536;
+        i += 1;
+    }
+    h
+}
+
+// Whether what starts at a place, and ends before `end`, is equal.
+fn equal_at(diagram: &[u16], end: usize, place: usize, entry: &[u16]) -> bool
+    requires { ⌜ Room (length (now diagram)) end ⌝ }
+    ensures { λ r. ⌜ r ≡ equalAt (now (diagram .entry)) end place (now (entry .entry)) ⌝ }
+{
+    if end <= place {
+        return false;
+    }
+    let size = size_at(diagram, place);
+    if end - place < size {
+        return false;
+    }
+    equal(&diagram[place..place + size], entry)
+}
+
+// A place, as a number to count with.
+fn wide(place: u16) -> usize
+    ensures { λ r. ⌜ r ≡ place ⌝ }
+{
+    place as usize
+}
+
+// Where an equal entry stands, or the end; and the slot in which a new one is to be noted, SLOTS for none.
+struct Found {
+    pub place: usize,
+    pub slot: usize,
+}
+
+// The place of an equal entry, and otherwise the end, with a slot for it: the index knows it, or all entries are compared.
+fn find(diagram: &[u16], end: usize, index: &[u16; SLOTS], entry: &[u16]) -> Found
+    requires { ⌜ Room (length (now diagram)) end ⌝ }
+    ensures { λ r. ⌜ r .place ≤ end ⌝ }
+    ensures { λ r. ⌜ ((es : Entries) → Laid es (now (diagram .entry)) (now (index .entry)) end → Finding es (now (index .entry)) end (now (entry .entry)) (r .place) (r .slot)) ⌝ }
+{
+    let hash = hash(entry);
+    let mut tried = 0;
+    while tried < TRIES {
+        let slot = (hash + tried) % SLOTS;
+        let place = wide(index[slot]);
+        if place == 0 {
+            return Found { place: end, slot };
+        }
+        if equal_at(diagram, end, place, entry) {
+            return Found { place, slot: SLOTS };
+        }
+        tried += 1;
+    }
+    Found {
+        place: scan(diagram, end, entry),
+        slot: SLOTS,
+    }
+}
+
+// Notes a place in a slot, where there is that slot.
+fn note(index: &mut [u16; SLOTS], slot: usize, place: u16)
+    ensures { λ _. ⌜ (length (now (index .entry)) ≡ slots → now (index .exit) ≡ set (now (index .entry)) slot place) ⌝ }
+{
+    if slot < SLOTS {
+        index[slot] = place;
+    }
+}
+
+// Where an entry stands, or is to stand after the last one, if there is room: the index then knows it.
+pub(crate) fn settle(diagram: &[u16], end: usize, index: &mut [u16; SLOTS], entry: &[u16]) -> Step
     requires { ⌜ Room (length (now diagram)) end × ((1 ≤ length (now entry)) × (length (now entry) ≤ 514)) ⌝ }
     ensures { λ r. ⌜ Room (length (now (diagram .entry))) (r .end) × (r .place < mostPlaces) ⌝ }
     ensures { λ r. ⌜ (end ≤ r .place → (r .place ≡ end) × (r .end ≡ end + length (now (entry .entry))) × (r .full ≡ false)) ⌝ }
-    ensures { λ r. ⌜ ((es : Entries) → Laid es (now (diagram .entry)) end → Settling (enter (header fields) es (now (entry .entry))) (length (now (diagram .entry))) (r .full) (r .end) (r .place)) ⌝ }
+    ensures { λ r. ⌜ ((es : Entries) → Laid es (now (diagram .entry)) (now (index .entry)) end → Settling (enter (header fields) es (now (entry .entry))) (length (now (diagram .entry))) (now (index .exit)) (r .full) (r .end) (r .place)) ⌝ }
 {
-    let place = find(diagram, end, entry);
-    if place < end {
+    let found = find(diagram, end, index, entry);
+    if found.place < end {
         return Step {
             end,
-            place,
+            place: found.place,
             full: false,
         };
     }
@@ -87,6 +170,7 @@ pub(crate) fn settle(diagram: &[u16], end: usize, entry: &[u16]) -> Step
             full: true,
         };
     }
+    note(index, found.slot, end as u16);
     Step {
         end: next,
         place: end,

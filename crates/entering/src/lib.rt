@@ -6,4 +6,5 @@ pub mod writing;
 
 pub use entering::enter_node;
 pub use entering::enter_terminal;
+pub use finding::SLOTS;
 pub use finding::Step;

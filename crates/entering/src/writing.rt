@@ -2,7 +2,7 @@
 use answer::store;
 ghost use mathlib.Core.Path.{_≡_};
 ghost use Prim.Native.Nat.{_+_, _*_, _≤_};
-ghost use lib.ListN.{length};
+ghost use lib.ListN.{length, take};
 ghost use lib.Seq.{sets};
 ghost use Rattle.diagram.specs.Entries.{terminal, node};
 ghost use Rattle.entering.specs.Edges.{edgesIn};
@@ -22,6 +22,7 @@ pub(crate) fn write_terminal(room: &mut [u16], decision: u8, cards: &[u16]) -> u
     requires { ⌜ (length (now cards) ≤ 127) × (3 + length (now cards) ≤ length (now room)) ⌝ }
     ensures { λ r. ⌜ r ≡ 3 + length (now (cards .entry)) ⌝ }
     ensures { λ _. ⌜ now (room .exit) ≡ sets (now (room .entry)) 0 (terminal (record { decision = decision; cards = now (cards .entry) })) ⌝ }
+    ensures { λ r. ⌜ take r (now (room .exit)) ≡ terminal (record { decision = decision; cards = now (cards .entry) }) ⌝ }
 {
     let count = cards.len();
     room[0] = 0;
@@ -42,6 +43,7 @@ pub(crate) fn write_node(
     requires { ⌜ (edges ≤ 256) × (2 + 2 * edges ≤ length (now room)) ⌝ }
     ensures { λ r. ⌜ r ≡ 2 + 2 * edges ⌝ }
     ensures { λ _. ⌜ now (room .exit) ≡ sets (now (room .entry)) 0 (node level (edgesIn (now (last .entry)) (now (child .entry)) edges)) ⌝ }
+    ensures { λ r. ⌜ take r (now (room .exit)) ≡ node level (edgesIn (now (last .entry)) (now (child .entry)) edges) ⌝ }
 {
     room[0] = level;
     room[1] = edges as u16;

@@ -5,35 +5,36 @@ use native.Mathlib.Omega.{arith}
 use borrow.Author.Needs.{needs}
 use lib.Seq.{length-take-le}
 use Rattle.answer.specs.Answers.{zeros}
+use Rattle.sets.specs.Sets.{has}
 use Rattle.building.proofs.Written.{few-counted, stored-long, ruling-entered}
 use Rattle.building.proofs.walking.enter_ruling.Statement.{statement}
 use Rattle.building.proofs.walking.enter_ruling.Tie as tie
 
-slice-aggregate-rule-read : tie.Need-slice-aggregate-rule-read
-slice-aggregate-rule-read c = search needs
+slice-aggregate-rule-set : tie.Need-slice-aggregate-rule-set
+slice-aggregate-rule-set c = search needs
 
-rule-read-requires : tie.Need-rule-read-requires
-rule-read-requires c κs = search needs
+rule-set-requires : tie.Need-rule-set-requires
+rule-set-requires c κs = search needs
 
 array-share-prefix-cards : tie.Need-array-share-prefix-cards
 array-share-prefix-cards c =
     let s = c .before .before .before .before .before .before .before .args in
-    let x = c .before .before .rule-read in
-    stored-long (s .table .now) (s .t2) (zeros 127) (x .last .1 .1 .0) (x .result .decision) (x .result .count) (c .before .before .before .before .before .before .before .pre .0) refl (x .ensures .0 .0) (x .ensures .0 .1) (x .ensures .1)
+    let x = c .before .before .before .rule-set in
+    stored-long (s .table .now) (has (s .applying)) (zeros 127) (x .last .1 .1 .0) (x .result .decision) (x .result .count) (c .before .before .before .before .before .before .before .pre .0 .0) refl (x .ensures .0 .0) (x .ensures .0 .1) (x .ensures .1)
 
 slice-aggregate-enter-terminal : tie.Need-slice-aggregate-enter-terminal
 slice-aggregate-enter-terminal c =
     let s = c .before .before .before .before .before .before .before .before .args in
-    let x = c .before .before .before .rule-read in
-    sym (length-take-le (x .result .count) (x .last .1 .1 .0) (stored-long (s .table .now) (s .t2) (zeros 127) (x .last .1 .1 .0) (x .result .decision) (x .result .count) (c .before .before .before .before .before .before .before .before .pre .0) refl (x .ensures .0 .0) (x .ensures .0 .1) (x .ensures .1)))
+    let x = c .before .before .before .before .rule-set in
+    sym (length-take-le (x .result .count) (x .last .1 .1 .0) (stored-long (s .table .now) (has (s .applying)) (zeros 127) (x .last .1 .1 .0) (x .result .decision) (x .result .count) (c .before .before .before .before .before .before .before .before .pre .0 .0) refl (x .ensures .0 .0) (x .ensures .0 .1) (x .ensures .1)))
 
 enter-terminal-requires : tie.Need-enter-terminal-requires
 enter-terminal-requires c κs =
     let s = c .before .before .before .before .before .before .before .before .args in
-    let x = c .before .before .before .rule-read in
-    let long = stored-long (s .table .now) (s .t2) (zeros 127) (x .last .1 .1 .0) (x .result .decision) (x .result .count) (c .before .before .before .before .before .before .before .before .pre .0) refl (x .ensures .0 .0) (x .ensures .0 .1) (x .ensures .1) in
-    let few = few-counted (s .table .now) (s .t2) (zeros 127) (x .last .1 .1 .0) (x .result .decision) (x .result .count) (c .before .before .before .before .before .before .before .before .pre .0) refl (x .ensures .0 .0) (x .ensures .0 .1) (x .ensures .1) in
-    (c .before .before .before .before .before .before .before .before .pre .1, omega (arith, few, length-take-le (x .result .count) (x .last .1 .1 .0) long))
+    let x = c .before .before .before .before .rule-set in
+    let long = stored-long (s .table .now) (has (s .applying)) (zeros 127) (x .last .1 .1 .0) (x .result .decision) (x .result .count) (c .before .before .before .before .before .before .before .before .pre .0 .0) refl (x .ensures .0 .0) (x .ensures .0 .1) (x .ensures .1) in
+    let few = few-counted (s .table .now) (has (s .applying)) (zeros 127) (x .last .1 .1 .0) (x .result .decision) (x .result .count) (c .before .before .before .before .before .before .before .before .pre .0 .0) refl (x .ensures .0 .0) (x .ensures .0 .1) (x .ensures .1) in
+    ((c .before .before .before .before .before .before .before .before .pre .1), omega (arith, few, length-take-le (x .result .count) (x .last .1 .1 .0) long))
 
 same-length : tie.Need-same-length
 same-length c = search needs
@@ -41,19 +42,19 @@ same-length c = search needs
 returns : tie.Need-returns
 returns c =
     let s = c .before .before .before .before .before .before .before .before .before .before .before .args in
-    let x = c .before .before .before .before .before .before .rule-read in
+    let x = c .before .before .before .before .before .before .before .rule-set in
     let y = c .before .before .enter-terminal in (
       y .ensures .0,
-      ruling-entered (s .table .now) (s .t2) (zeros 127) (x .last .1 .1 .0) (x .result .decision) (x .result .count) (c .before .before .before .before .before .before .before .before .before .before .before .pre .0) refl (x .ensures .0 .0) (x .ensures .0 .1) (x .ensures .1)
-          (s .diagram .now) (y .last .0) (s .end) (y .result .full) (y .result .end) (y .result .place) (y .ensures .1),
+      ruling-entered (s .table .now) (has (s .applying)) (zeros 127) (x .last .1 .1 .0) (x .result .decision) (x .result .count) (c .before .before .before .before .before .before .before .before .before .before .before .pre .0 .0) refl (x .ensures .0 .0) (x .ensures .0 .1) (x .ensures .1)
+          (s .diagram .now) (s .index .now) (y .last .0) (y .last .1 .1 .0) (s .end) (y .result .full) (y .result .end) (y .result .place) (y .ensures .1),
     )
 
 pub enter-ruling-spec : {M : Type 1} → statement M
 enter-ruling-spec =
     tie.close
     (tie.spec
-    slice-aggregate-rule-read
-    rule-read-requires
+    slice-aggregate-rule-set
+    rule-set-requires
     array-share-prefix-cards
     slice-aggregate-enter-terminal
     enter-terminal-requires

@@ -1,17 +1,14 @@
 -- `building::whole::build` meets its contract, on each way out.
 -- Assumes nothing.
-use mathlib.Core.Path.{ap, _∙_}
-use Prim.Native.Nat.{_≤_}
+use mathlib.Core.Path.{sym, ap, _∙_}
 use native.Mathlib.Omega.{arith}
 use borrow.Author.Needs.{needs}
 use lib.ListN.{length}
 use Rattle.answer.specs.Answers.{zeros}
-use Rattle.answer.specs.Fields.{fields}
 use Rattle.ruling.proofs.Outcome.{read-zero, read-formed}
-use Rattle.diagram.specs.Layout.{header}
-use Rattle.building.proofs.Outcome.{unread}
-use Rattle.building.proofs.WalkedAll.{too-short, walk-full, walk-done}
 use Rattle.building.proofs.FieldByField.{header-there}
+use Rattle.building.proofs.WalkedAll.{too-short, walk-full, walk-done}
+use Rattle.building.proofs.Outcome.{unread}
 use Rattle.building.proofs.whole.build.Statement.{statement}
 use Rattle.building.proofs.whole.build.Tie as tie
 
@@ -46,7 +43,7 @@ returns-2 c =
 walk-all-requires : tie.Need-walk-all-requires
 walk-all-requires c κs =
     let t = c .before .before .before .before .before .before .before .before .before .before .before .args .table .now in
-    (read-formed t (c .before .before .before .before .read .result) (c .before .before .before .before .read .ensures) (c .before .before .if1 .left), (omega arith, omega arith, omega arith))
+    (read-formed t (c .before .before .before .before .read .result) (c .before .before .before .before .read .ensures) (c .before .before .if1 .left), ((omega arith, omega arith, omega arith), c .before .before .before .before .before .before .before .clear .ensures ∙ ap zeros (sym (c .before .before .before .before .before .before .before .clear .kept .0))))
 
 clear-requires-2 : tie.Need-clear-requires-2
 clear-requires-2 c κs = search needs
@@ -64,8 +61,7 @@ returns-3 c =
     let zero = read-zero t (c .before .before .before .before .before .before .before .before .before .before .before .before .before .read .result) (c .before .before .before .before .before .before .before .before .before .before .before .before .before .read .ensures) (c .before .before .before .before .before .before .before .before .before .before .before .if1 .left) in
     let formed = read-formed t (c .before .before .before .before .before .before .before .before .before .before .before .before .before .read .result) (c .before .before .before .before .before .before .before .before .before .before .before .before .before .read .ensures) (c .before .before .before .before .before .before .before .before .before .before .before .if1 .left) in
     let x = c .before .before .before .before .before .before .before .before .walk-all in
-    let room : header fields ≤ length (s .diagram .now) = omega (arith, c .before .before .before .before .before .before .before .before .before .before .before .before .before .before .before .before .clear .kept .0, c .before .before .before .before .before .before .before .before .before .before .if2 .left) in
-    walk-full t (length (s .diagram .now)) zero (header-there t formed) (c .before .before .before .before .before .before .before .before .before .before .before .before .before .before .before .before .clear .last .0) (x .last .1 .0) (x .result .full) (x .result .end) (x .result .place) (c .before .before .before .before .before .before .before .before .before .before .before .before .before .before .before .before .clear .ensures) room (x .ensures)
+    walk-full t (length (s .diagram .now)) zero (header-there t formed) (c .before .before .before .before .before .before .before .before .before .before .before .before .before .before .before .before .clear .last .0) (x .last .1 .0) (x .result .full) (x .result .end) (x .result .place) (c .before .before .before .before .before .before .before .before .before .before .before .before .before .before .before .before .clear .ensures) (x .ensures)
     (c .refused2 .result) (c .before .before .before .clear2 .last .0) (c .before .before .before .before .before .if3 .taken) (c .refused2 .ensures) (c .before .before .before .clear2 .ensures ∙ ap zeros (x .kept .1 .0 ∙ c .before .before .before .before .before .before .before .before .before .before .before .before .before .before .before .before .clear .kept .0))
 
 cast-write-header : tie.Need-cast-write-header
@@ -92,8 +88,7 @@ returns-4 c =
     let zero = read-zero t (c .before .before .before .before .before .before .before .before .before .before .before .before .before .before .before .read .result) (c .before .before .before .before .before .before .before .before .before .before .before .before .before .before .before .read .ensures) (c .before .before .before .before .before .before .before .before .before .before .before .before .before .if1 .left) in
     let formed = read-formed t (c .before .before .before .before .before .before .before .before .before .before .before .before .before .before .before .read .result) (c .before .before .before .before .before .before .before .before .before .before .before .before .before .before .before .read .ensures) (c .before .before .before .before .before .before .before .before .before .before .before .before .before .if1 .left) in
     let x = c .before .before .before .before .before .before .before .before .before .before .walk-all in
-    let room : header fields ≤ length (s .diagram .now) = omega (arith, c .before .before .before .before .before .before .before .before .before .before .before .before .before .before .before .before .before .before .clear .kept .0, c .before .before .before .before .before .before .before .before .before .before .before .before .if2 .left) in
-    walk-done t (length (s .diagram .now)) zero (header-there t formed) (c .before .before .before .before .before .before .before .before .before .before .before .before .before .before .before .before .before .before .clear .last .0) (x .last .1 .0) (x .result .full) (x .result .end) (x .result .place) (c .before .before .before .before .before .before .before .before .before .before .before .before .before .before .before .before .before .before .clear .ensures) room (x .ensures)
+    walk-done t (length (s .diagram .now)) zero (header-there t formed) (c .before .before .before .before .before .before .before .before .before .before .before .before .before .before .before .before .before .before .clear .last .0) (x .last .1 .0) (x .result .full) (x .result .end) (x .result .place) (c .before .before .before .before .before .before .before .before .before .before .before .before .before .before .before .before .before .before .clear .ensures) (x .ensures)
     (c .counted .result) (c .before .before .before .write-header .last .0) (c .before .before .before .before .before .before .before .if3 .left) (x .kept .1 .0) (c .counted .ensures) (c .before .before .before .write-header .ensures)
 
 pub build-spec : {M : Type 1} → statement M

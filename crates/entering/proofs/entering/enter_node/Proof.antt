@@ -1,14 +1,13 @@
 -- `entering::entering::enter_node` meets its contract: an equal entry is pointed to, else it is written.
 -- Assumes nothing.
+use mathlib.Core.Path.{refl}
 use mathlib.Core.Logic.{inr}
-use mathlib.Core.Path.{_≡_, refl, sym, ap, _∙_}
 use native.Mathlib.Omega.{arith}
 use borrow.Author.Needs.{needs}
-use lib.ListN.{length, take}
-use Rattle.entering.specs.Edges.{edgesIn}
 use Rattle.diagram.specs.Entries.{node}
+use Rattle.entering.specs.Edges.{edgesIn}
+use Rattle.entering.proofs.NumbersWritten.{rest-length, rest-kept, node-length}
 use Rattle.entering.proofs.LaidOut.{nothing-written, one-written}
-use Rattle.entering.proofs.NumbersWritten.{start-is, node-length, rest-length, rest-kept}
 use Rattle.entering.proofs.entering.enter_node.Statement.{statement}
 use Rattle.entering.proofs.entering.enter_node.Tie as tie
 
@@ -23,27 +22,23 @@ array-share-prefix-entry c = search needs
 
 slice-aggregate-settle : tie.Need-slice-aggregate-settle
 slice-aggregate-settle c =
-    let s = c .before .before .before .before .before .before .args in
-    let n = node-length (s .last .now) (s .child .now) (s .level) (s .edges) in
-    let p = start-is _ (node (s .level) (edgesIn (s .last .now) (s .child .now) (s .edges))) (c .before .before .before .write-node .last .0) (c .before .before .before .write-node .result) (c .before .before .before .write-node .ensures .1) (c .before .before .before .write-node .ensures .0 ∙ sym n) (omega (arith, n, c .before .before .before .before .before .before .pre .1 .1)) in
-    c .before .before .before .write-node .ensures .0 ∙ sym n ∙ ap length (sym p)
+    let s = c .before .before .before .before .before .before .before .args in
+    omega (arith, c .before .before .before .before .write-node .ensures .0, node-length (s .last .now) (s .child .now) (s .level) (s .edges) _ (c .before .before .before .before .write-node .ensures .1 .1))
 
 settle-requires : tie.Need-settle-requires
 settle-requires c κs =
-    let s = c .before .before .before .before .before .before .args in
-    let n = node-length (s .last .now) (s .child .now) (s .level) (s .edges) in
-    let p : take (c .before .before .before .write-node .result) (c .before .before .before .write-node .last .0) ≡ node (s .level) (edgesIn (s .last .now) (s .child .now) (s .edges)) = start-is _ (node (s .level) (edgesIn (s .last .now) (s .child .now) (s .edges))) (c .before .before .before .write-node .last .0) (c .before .before .before .write-node .result) (c .before .before .before .write-node .ensures .1) (c .before .before .before .write-node .ensures .0 ∙ sym n) (omega (arith, n, c .before .before .before .before .before .before .pre .1 .1)) in
-    (c .before .before .before .before .before .before .pre .0, (omega (arith, n, ap length p), omega (arith, n, ap length p, c .before .before .before .before .before .before .pre .1 .1)))
+    let s = c .before .before .before .before .before .before .before .args in
+    let n = node-length (s .last .now) (s .child .now) (s .level) (s .edges) _ (c .before .before .before .before .write-node .ensures .1 .1) in
+    (c .before .before .before .before .before .before .before .pre .0, (omega (arith, n), omega (arith, n, c .before .before .before .before .before .before .before .pre .1 .1)))
 
 same-length : tie.Need-same-length
 same-length c = search needs
 
 returns : tie.Need-returns
 returns c =
-    let s = c .before .before .before .before .before .before .before .before .before .args in
-    let n = node-length (s .last .now) (s .child .now) (s .level) (s .edges) in
-    let p : take (c .before .before .before .before .before .before .write-node .result) (c .before .before .before .before .before .before .write-node .last .0) ≡ node (s .level) (edgesIn (s .last .now) (s .child .now) (s .edges)) = start-is _ (node (s .level) (edgesIn (s .last .now) (s .child .now) (s .edges))) (c .before .before .before .before .before .before .write-node .last .0) (c .before .before .before .before .before .before .write-node .result) (c .before .before .before .before .before .before .write-node .ensures .1) (c .before .before .before .before .before .before .write-node .ensures .0 ∙ sym n) (omega (arith, n, c .before .before .before .before .before .before .before .before .before .pre .1 .1)) in
-    (c .before .before .settle .ensures .0, λ es l. nothing-written es (s .diagram .now) (s .end) (node (s .level) (edgesIn (s .last .now) (s .child .now) (s .edges))) l _ p _ (c .before .before .settle .result .full) (c .before .before .settle .result .end) (c .before .before .settle .result .place) (c .if1 .taken) (c .before .before .settle .ensures .1 .1 es l))
+    let s = c .before .before .before .before .before .before .before .before .before .before .args in
+    let t = c .before .before .settle in
+    (t .ensures .0, λ es l. nothing-written es (s .diagram .now) (s .index .now) (s .end) (node (s .level) (edgesIn (s .last .now) (s .child .now) (s .edges))) l _ (c .before .before .before .before .before .before .before .write-node .ensures .1 .1) _ (t .result .full) (t .result .end) (t .result .place) (t .ensures .1 .1 es l) (c .if1 .taken))
 
 mul-write-node : tie.Need-mul-write-node
 mul-write-node c = search needs
@@ -59,26 +54,19 @@ part-write-node-end c = search needs
 
 write-node-requires-2 : tie.Need-write-node-requires-2
 write-node-requires-2 c κs =
-    let s = c .before .before .before .before .before .before .before .before .before .before .args in
-    let n = node-length (s .last .now) (s .child .now) (s .level) (s .edges) in
-    let p : take (c .before .before .before .before .before .before .before .write-node .result) (c .before .before .before .before .before .before .before .write-node .last .0) ≡ node (s .level) (edgesIn (s .last .now) (s .child .now) (s .edges)) = start-is _ (node (s .level) (edgesIn (s .last .now) (s .child .now) (s .edges))) (c .before .before .before .before .before .before .before .write-node .last .0) (c .before .before .before .before .before .before .before .write-node .result) (c .before .before .before .before .before .before .before .write-node .ensures .1) (c .before .before .before .before .before .before .before .write-node .ensures .0 ∙ sym n) (omega (arith, n, c .before .before .before .before .before .before .before .before .before .before .pre .1 .1)) in
-    let w = c .before .before .before .settle .ensures .1 .0 (c .before .if1 .left) in
-    (c .before .before .before .before .before .before .before .before .before .before .pre .1 .1, omega (arith, n, ap length p, w .1, c .before .before .before .settle .ensures .0 .0 .1, rest-length (s .diagram .now) (s .end) (c .before .before .before .before .before .before .before .before .before .before .pre .0 .1)))
+    let s = c .before .before .before .before .before .before .before .before .before .before .before .args in
+    let t = c .before .before .before .settle in
+    (c .before .before .before .before .before .before .before .before .before .before .before .pre .1 .1, omega (arith, node-length (s .last .now) (s .child .now) (s .level) (s .edges) _ (c .before .before .before .before .before .before .before .before .write-node .ensures .1 .1), t .ensures .1 .0 (c .before .if1 .left) .1, t .ensures .0 .0 .1, rest-length (s .diagram .now) (s .end) (c .before .before .before .before .before .before .before .before .before .before .before .pre .0 .1)))
 
 same-length-2 : tie.Need-same-length-2
-same-length-2 c =
-    rest-kept (c .before .before .before .before .before .before .before .before .before .before .before .before .before .args .diagram .now) (c .before .before .write-node2 .last .0) (c .before .before .before .before .before .before .before .before .before .before .before .before .before .args .end) (c .before .before .before .before .before .before .before .before .before .before .before .before .before .pre .0 .1) (c .before .before .write-node2 .kept .0)
+same-length-2 c = rest-kept (c .before .before .before .before .before .before .before .before .before .before .before .before .before .before .args .diagram .now) (c .before .before .write-node2 .last .0) (c .before .before .before .before .before .before .before .before .before .before .before .before .before .before .args .end) (c .before .before .before .before .before .before .before .before .before .before .before .before .before .before .pre .0 .1) (c .before .before .write-node2 .kept .0)
 
 returns-2 : tie.Need-returns-2
 returns-2 c =
-    let s = c .before .before .before .before .before .before .before .before .before .before .before .before .before .args in
-    let n = node-length (s .last .now) (s .child .now) (s .level) (s .edges) in
-    let p : take (c .before .before .before .before .before .before .before .before .before .before .write-node .result) (c .before .before .before .before .before .before .before .before .before .before .write-node .last .0) ≡ node (s .level) (edgesIn (s .last .now) (s .child .now) (s .edges)) = start-is _ (node (s .level) (edgesIn (s .last .now) (s .child .now) (s .edges))) (c .before .before .before .before .before .before .before .before .before .before .write-node .last .0) (c .before .before .before .before .before .before .before .before .before .before .write-node .result) (c .before .before .before .before .before .before .before .before .before .before .write-node .ensures .1) (c .before .before .before .before .before .before .before .before .before .before .write-node .ensures .0 ∙ sym n) (omega (arith, n, c .before .before .before .before .before .before .before .before .before .before .before .before .before .pre .1 .1)) in
-    let w = c .before .before .before .before .before .before .settle .ensures .1 .0 (c .before .before .before .before .if1 .left) in (
-      c .before .before .before .before .before .before .settle .ensures .0,
-      λ es l. one-written es (s .diagram .now) (s .end) (node (s .level) (edgesIn (s .last .now) (s .child .now) (s .edges))) l (take (c .before .before .before .before .before .before .before .before .before .before .write-node .result) (c .before .before .before .before .before .before .before .before .before .before .write-node .last .0)) p (length (s .diagram .now)) (inr (s .level, edgesIn (s .last .now) (s .child .now) (s .edges), c .before .before .before .before .before .before .before .before .before .before .before .before .before .pre .1 .0, refl)) (omega (arith, ap length p, w .1, c .before .before .before .before .before .before .settle .ensures .0 .0 .1)) (c .before .before .before .before .before .before .settle .result .full) (c .before .before .before .before .before .before .settle .result .end) (c .before .before .before .before .before .before .settle .result .place) w (c .before .before .before .before .before .before .settle .ensures .1 .1 es l) (c .before .before .write-node2 .last .0) (c .before .before .write-node2 .ensures .1)
-          (rest-kept (s .diagram .now) (c .before .before .write-node2 .last .0) (s .end) (c .before .before .before .before .before .before .before .before .before .before .before .before .before .pre .0 .1) (c .before .before .write-node2 .kept .0)),
-    )
+    let s = c .before .before .before .before .before .before .before .before .before .before .before .before .before .before .args in
+    let t = c .before .before .before .before .before .before .settle in
+    let edges = edgesIn (s .last .now) (s .child .now) (s .edges) in
+    (t .ensures .0, λ es l. one-written es (s .diagram .now) (s .index .now) (s .end) (node (s .level) edges) l _ (c .before .before .before .before .before .before .before .before .before .before .before .write-node .ensures .1 .1) _ (t .result .full) (t .result .end) (t .result .place) (t .ensures .1 .1 es l) (inr (s .level, edges, c .before .before .before .before .before .before .before .before .before .before .before .before .before .before .pre .1 .0, refl)) (t .ensures .1 .0 (c .before .before .before .before .if1 .left)) (t .ensures .0 .0 .1) (c .before .before .write-node2 .last .0) (c .before .before .write-node2 .ensures .1 .0))
 
 pub enter-node-spec : {M : Type 1} → statement M
 enter-node-spec =

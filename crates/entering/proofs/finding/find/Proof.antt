@@ -1,71 +1,73 @@
--- `entering::finding::find` meets its contract: no entry before the place is equal.
+-- `entering::finding::find` meets its contract: the slots tried so far hold places of other entries.
 -- Assumes nothing.
-use mathlib.Core.Path.{sym, _∙_}
-use Prim.Native.Nat.{_-_, _≤_}
+use mathlib.Core.Path.{_≡_, sym, _∙_, subst}
+use Prim.Native.Nat.{_-_, _≤_, _<_}
 use native.Mathlib.Omega.{arith}
 use borrow.Author.Needs.{needs}
-use lib.ListN.{length}
-use Rattle.diagram.specs.Starts.{size-two}
-use Rattle.diagram.specs.Layout.{mostPlaces}
-use Rattle.entering.proofs.Seeking.{Seeks, seek-starts, seek-within, seek-found, seek-on, seek-ends}
+use Rattle.entering.specs.Index.{tries, hashed}
+use Rattle.entering.proofs.Indexing.{Tried, tried-none, tried-more, empty-finds, equal-finds, equal-before-end, compared-finds}
 use Rattle.entering.proofs.finding.find.Statement.{statement}
 use Rattle.entering.proofs.finding.find.Tie as tie
 
 abbrev Inv-loop : tie.InvT-loop
-Inv-loop diagram end entry place₀ place = (place ≤ end) × (end ≤ length diagram) × (end ≤ mostPlaces) × Seeks diagram end entry place
+Inv-loop diagram end index entry hash tried₀ tried = (tried ≤ tries) × (hash ≡ hashed 0 entry) × (hash < 65536) × Tried diagram end index entry tried
 
 abbrev μ-loop : tie.MeasureT-loop
-μ-loop diagram end entry place₀ place = end - place
+μ-loop diagram end index entry hash tried₀ tried = tries - tried
+
+hash-requires : tie.Need-hash-requires Inv-loop μ-loop
+hash-requires c κs = search needs
 
 loop-holds : tie.Need-loop-holds Inv-loop μ-loop
-loop-holds c = (c .before .before .pre .0, c .before .before .pre .1, c .before .before .pre .2, seek-starts (c .before .before .args .diagram .now) (c .before .before .args .end) (c .before .before .args .entry .now))
+loop-holds c =
+    let s = c .before .before .before .args in
+    (omega arith, c .hash .ensures .0, c .hash .ensures .1, tried-none (s .diagram .now) (s .end) (s .index .now) (s .entry .now))
 
-size-at-requires : tie.Need-size-at-requires Inv-loop μ-loop
-size-at-requires c κs = search needs
+add-slot : tie.Need-add-slot Inv-loop μ-loop
+add-slot c = search needs
 
-sub-if1 : tie.Need-sub-if1 Inv-loop μ-loop
-sub-if1 c = search needs
+mul-wide : tie.Need-mul-wide Inv-loop μ-loop
+mul-wide c = search needs
+
+element-copy-out-wide : tie.Need-element-copy-out-wide Inv-loop μ-loop
+element-copy-out-wide c = search needs
+
+wide-requires : tie.Need-wide-requires Inv-loop μ-loop
+wide-requires c κs = search needs
 
 returns : tie.Need-returns Inv-loop μ-loop
 returns c =
-    let s = c .before .before .before .before .before .before .args in
-    (omega arith, seek-within (s .diagram .now) (s .end) (s .entry .now) (c .before .before .before .loop .place) (c .before .before .before .loop .inv .3) (c .before .before .loop-test .taken) (omega (arith, c .if1 .taken, c .before .size-at .ensures .0)))
+    let s = c .before .before .before .before .before .before .before .before .args in
+    (omega arith, empty-finds (s .diagram .now) (s .end) (s .index .now) (s .entry .now) (c .before .before .before .before .before .hash .result) (c .before .before .before .before .loop .tried) (c .before .wide .result) (c .before .before .before .before .loop .inv .1) (c .before .before .before .before .loop .inv .3) (c .before .wide .ensures) (c .before .before .before .loop-test .taken) (c .if1 .taken))
 
-add-next : tie.Need-add-next Inv-loop μ-loop
-add-next c = search needs
-
-mul-equal : tie.Need-mul-equal Inv-loop μ-loop
-mul-equal c = search needs
-
-sub-equal : tie.Need-sub-equal Inv-loop μ-loop
-sub-equal c = search needs
-
-part-equal-start : tie.Need-part-equal-start Inv-loop μ-loop
-part-equal-start c = search needs
-
-part-equal-end : tie.Need-part-equal-end Inv-loop μ-loop
-part-equal-end c = search needs
-
-equal-requires : tie.Need-equal-requires Inv-loop μ-loop
-equal-requires c κs = search needs
+equal-at-requires : tie.Need-equal-at-requires Inv-loop μ-loop
+equal-at-requires c κs = search needs
 
 returns-2 : tie.Need-returns-2 Inv-loop μ-loop
 returns-2 c =
-    let s = c .before .before .before .before .before .before .before .before .before .args in
-    (omega arith, seek-found (s .diagram .now) (s .end) (s .entry .now) (c .before .before .before .before .before .before .loop .place) (c .before .before .before .before .before .before .loop .inv .3) (c .before .before .before .before .size-at .result) (c .before .before .before .before .size-at .ensures .0) (c .before .before .before .before .before .loop-test .taken) (sym (c .if2 .taken) ∙ c .before .equal .ensures))
+    let s = c .before .before .before .before .before .before .before .before .before .before .args in
+    let e = sym (c .if2 .taken) ∙ c .before .equal-at .ensures in
+    (omega (arith, equal-before-end (s .diagram .now) (s .end) (c .before .before .before .wide .result) (s .entry .now) e), equal-finds (s .diagram .now) (s .end) (s .index .now) (s .entry .now) (c .before .before .before .before .before .before .before .hash .result) (c .before .before .before .before .before .before .loop .tried) (c .before .before .before .wide .result) (c .before .before .before .before .before .before .loop .inv .1) (c .before .before .before .before .before .before .loop .inv .3) (c .before .before .before .wide .ensures) (c .before .before .if1 .left) e)
+
+add-tried : tie.Need-add-tried Inv-loop μ-loop
+add-tried c = search needs
 
 loop-less : tie.Need-loop-less Inv-loop μ-loop
-loop-less c = omega (arith, size-two (c .before .before .before .before .before .before .before .before .before .args .diagram .now) (c .before .before .before .before .before .before .loop .place), c .before .before .before .before .size-at .ensures .0, c .before .before .before .before .before .loop-test .taken)
+loop-less c = search needs
 
 loop-again : tie.Need-loop-again Inv-loop μ-loop
 loop-again c =
-    let s = c .before .before .before .before .before .before .before .before .before .args in
-    (omega arith, c .before .before .before .before .before .before .loop .inv .1, c .before .before .before .before .before .before .loop .inv .2, seek-on (s .diagram .now) (s .end) (s .entry .now) (c .before .before .before .before .before .before .loop .place) (c .before .before .before .before .before .before .loop .inv .3) (c .before .before .before .before .size-at .result) (c .before .before .before .before .size-at .ensures .0) (c .before .before .before .before .before .loop-test .taken) (sym (c .if2 .left) ∙ c .before .equal .ensures))
+    let s = c .before .before .before .before .before .before .before .before .before .before .args in
+    (omega arith, c .before .before .before .before .before .before .loop .inv .1, c .before .before .before .before .before .before .loop .inv .2, tried-more (s .diagram .now) (s .end) (s .index .now) (s .entry .now) (c .before .before .before .before .before .before .before .hash .result) (c .before .before .before .before .before .before .loop .tried) (c .before .before .before .wide .result) (c .before .before .before .before .before .before .loop .inv .1) (c .before .before .before .before .before .before .loop .inv .3) (c .before .before .before .wide .ensures) (c .before .before .if1 .left) (sym (c .if2 .left) ∙ c .before .equal-at .ensures))
+
+scan-requires : tie.Need-scan-requires Inv-loop μ-loop
+scan-requires c κs = search needs
 
 returns-3 : tie.Need-returns-3 Inv-loop μ-loop
 returns-3 c =
-    let s = c .before .before .before .before .args in
-    (omega arith, seek-ends (s .diagram .now) (s .end) (s .entry .now) (c .before .loop .place) (c .before .loop .inv .3) (omega (arith, c .before .loop .inv .0, c .loop-test .left)))
+    let s = c .before .before .before .before .before .before .args in
+    let z : c .before .before .loop .tried ≡ tries = omega (arith, c .before .before .loop .inv .0, c .before .loop-test .left) in
+    (c .scan .ensures .0, compared-finds (s .diagram .now) (s .end) (s .index .now) (s .entry .now) (subst (Tried (s .diagram .now) (s .end) (s .index .now) (s .entry .now)) z (c .before .before .loop .inv .3)) (c .scan .result) (c .scan .ensures .1))
 
 pub find-spec : {M : Type 1} → statement M
 find-spec =
@@ -73,17 +75,17 @@ find-spec =
     (tie.spec
     Inv-loop
     μ-loop
+    hash-requires
     loop-holds
-    size-at-requires
-    sub-if1
+    add-slot
+    mul-wide
+    element-copy-out-wide
+    wide-requires
     returns
-    add-next
-    mul-equal
-    sub-equal
-    part-equal-start
-    part-equal-end
-    equal-requires
+    equal-at-requires
     returns-2
+    add-tried
     loop-less
     loop-again
+    scan-requires
     returns-3)

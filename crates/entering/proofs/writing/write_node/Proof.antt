@@ -1,11 +1,11 @@
 -- `entering::writing::write_node` meets its contract: the edges so far are written.
 -- Assumes nothing.
-use mathlib.Core.Path.{_≡_, refl, _∙_}
+use mathlib.Core.Path.{_≡_, refl, sym, _∙_}
 use Prim.Native.Nat.{_+_, _*_, _-_, _≤_}
 use native.Mathlib.Omega.{arith}
 use borrow.Author.Needs.{needs}
 use lib.ListN.{length, getD, length-set}
-use Rattle.entering.proofs.NumbersWritten.{Writing, edge-written, node-written, two-kept}
+use Rattle.entering.proofs.NumbersWritten.{start-is, Writing, edge-written, node-written, node-length, two-kept}
 use Rattle.entering.proofs.writing.write_node.Statement.{statement}
 use Rattle.entering.proofs.writing.write_node.Tie as tie
 
@@ -90,7 +90,9 @@ returns : tie.Need-returns Inv-loop μ-loop
 returns c =
     let v = c .before .loop .inv in
     let s = c .before .before .args in
-    (refl, node-written (s .room .now) (s .last .now) (s .child .now) (s .level) (s .edges) (c .before .loop .j) (c .before .loop .room) (v .4) (c .loop-test .left) (v .0))
+    let n = node-length (s .last .now) (s .child .now) (s .level) (s .edges) _ refl in
+    let w = node-written (s .room .now) (s .last .now) (s .child .now) (s .level) (s .edges) (c .before .loop .j) (c .before .loop .room) (v .4) (c .loop-test .left) (v .0) in
+    (refl, (w, start-is (s .room .now) _ _ _ w (sym n) (omega (arith, n, c .before .before .pre .1))))
 
 pub write-node-spec : {M : Type 1} → statement M
 write-node-spec =

@@ -1,10 +1,10 @@
 -- `entering::writing::write_terminal` meets its contract: three numbers, and the cards.
 -- Assumes nothing.
-use mathlib.Core.Path.{refl, _∙_}
+use mathlib.Core.Path.{refl, sym, _∙_}
 use native.Mathlib.Omega.{arith}
 use borrow.Author.Needs.{needs}
 use lib.ListN.{length, set, length-set}
-use Rattle.entering.proofs.NumbersWritten.{rest-length, rest-kept, rest-stored, terminal-written, two-kept, three-kept}
+use Rattle.entering.proofs.NumbersWritten.{rest-length, rest-kept, start-is, rest-stored, terminal-length, two-kept, three-kept, terminal-written}
 use Rattle.entering.proofs.writing.write_terminal.Statement.{statement}
 use Rattle.entering.proofs.writing.write_terminal.Tie as tie
 
@@ -48,7 +48,9 @@ returns : tie.Need-returns
 returns c =
     let s = c .before .before .before .before .before .before .args in
     let k = three-kept (s .room .now) 0 1 2 0 (s .decision) (length (s .cards .now)) in
-    (refl, rest-stored (set (set (set (s .room .now) 0 0) 1 (s .decision)) 2 (length (s .cards .now))) (s .cards .now) (c .before .before .store .last .1 .0) 3 (omega (arith, k, c .before .before .before .before .before .before .pre .1)) (c .before .before .store .ensures) ∙ terminal-written (s .room .now) (s .cards .now) (s .decision))
+    let n = terminal-length (s .decision) (s .cards .now) _ refl in
+    let w = rest-stored (set (set (set (s .room .now) 0 0) 1 (s .decision)) 2 (length (s .cards .now))) (s .cards .now) (c .before .before .store .last .1 .0) 3 (omega (arith, k, c .before .before .before .before .before .before .pre .1)) (c .before .before .store .ensures) ∙ terminal-written (s .room .now) (s .cards .now) (s .decision) in
+    (refl, (w, start-is (s .room .now) _ _ _ w (sym n) (omega (arith, n, c .before .before .before .before .before .before .pre .1))))
 
 pub write-terminal-spec : {M : Type 1} → statement M
 write-terminal-spec =
