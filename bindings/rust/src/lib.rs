@@ -1,0 +1,211 @@
+//! Kolfsein, a verified policy engine for board games: safe calls of its static library.
+//!
+//! A table of rules in nested groups is read, ruled by, or built into a decision diagram, which is ruled by faster.
+//! Each call takes any bytes, any numbers and any values and ends. It allocates nothing and keeps nothing between
+//! calls, so any thread may call; one takes up to some 67 KB of stack. The repository's README describes the formats.
+//!
+//! ```
+//! use kolfsein::{Decision, Reason, Request, MOST_CARDS, MOST_PLACES};
+//!
+//! let table = [
+//!     0, 61, 1, 2, 1, 1, 0, 5, // 61 bytes follow, version 1, the maxima 2, 1 and 1, 5 nodes
+//!     3, 0, 5, 0, 0, 0, 2, 0, 1, 0, 1, // deny overrides, over all five
+//!     4, 0, 1, 0, 10, 0, 2, 0, 1, 0, 0, // card 10: anyone may trade anywhere
+//!     5, 0, 1, 0, 20, 2, 2, 0, 0, 0, 0, // card 20: the smuggler may not trade at the harbour
+//!     0, 0, 2, 0, 0, 1, 1, 0, 1, 1, 1, // first applicable: of the captain's attacks,
+//!     4, 0, 1, 0, 30, 0, 2, 1, 1, 0, 1, // card 30: at the market they may be done
+//! ];
+//! assert_eq!(kolfsein::read(&table)?, 5);
+//!
+//! // The smuggler trades at the harbour.
+//! let request = Request { subject: 2, resource: 0, action: 0 };
+//! let mut cards = [0; MOST_CARDS];
+//! let ruling = kolfsein::rule(&table, request, &mut cards)?;
+//! assert_eq!(ruling.decision, Decision::Deny);
+//! assert_eq!(cards[..ruling.count], [10, 20]);
+//!
+//! // The same by the diagram.
+//! let mut diagram = vec![0; MOST_PLACES];
+//! let used = kolfsein::build(&table, &mut diagram)?;
+//! assert_eq!(used, 63);
+//! assert_eq!(kolfsein::look_up(&diagram[..used], request, &mut cards)?, ruling);
+//! assert_eq!(cards[..ruling.count], [10, 20]);
+//!
+//! // There is no subject 3.
+//! let nobody = Request { subject: 3, ..request };
+//! let refusal = kolfsein::rule(&table, nobody, &mut cards).unwrap_err();
+//! assert_eq!((refusal.reason, refusal.place), (Reason::Value, 0));
+//! assert_eq!(cards, [0; MOST_CARDS]);
+//! # Ok::<(), kolfsein::Refusal>(())
+//! ```
+
+#![deny(unsafe_op_in_unsafe_fn)]
+#![deny(missing_docs)]
+
+mod c;
+mod refusal;
+mod ruling;
+
+pub use refusal::{Reason, Refusal};
+pub use ruling::{Decision, Request, Ruling};
+
+/// No ruling has more cards than this: a list of so many places is never too short.
+///
+/// ```
+/// let mut cards = [0u16; kolfsein::MOST_CARDS];
+/// assert_eq!(cards.len(), 127);
+/// # cards[0] = 1;
+/// ```
+pub const MOST_CARDS: usize = 127;
+
+/// No sound diagram uses more places than this: so many to build in are too few only where all would be.
+///
+/// ```
+/// let diagram = vec![0u16; kolfsein::MOST_PLACES];
+/// assert_eq!(diagram.len(), 32_768);
+/// ```
+pub const MOST_PLACES: usize = 32_768;
+
+/// Reads a table: its number of nodes.
+///
+/// ```
+/// use kolfsein::Reason;
+///
+/// // One permit rule, with card 10, for every subject and resource up to 2 and 1, and for action 0.
+/// let mut table = [0, 17, 1, 2, 1, 1, 0, 1, 4, 0, 1, 0, 10, 0, 2, 0, 1, 0, 0];
+/// assert_eq!(kolfsein::read(&table), Ok(1));
+///
+/// table[2] = 2;
+/// assert_eq!(kolfsein::read(&table).unwrap_err().reason, Reason::Version);
+/// ```
+///
+/// # Errors
+///
+/// The first refusal in this order: [`Length`](Reason::Length), [`Version`](Reason::Version),
+/// [`NodeCount`](Reason::NodeCount); then [`Kind`](Reason::Kind) to [`Card`](Reason::Card), nodes upward, lowest
+/// number first within a node.
+pub fn read(table: &[u8]) -> Result<usize, Refusal> {
+    // SAFETY: the slice's pointer is valid to read for its length.
+    let answer = unsafe { c::kolfsein_read(table.as_ptr(), table.len()) };
+    answer.counted()
+}
+
+/// Rules on a request by a table's groups: the decision, and how many rules match. The list then holds the cards of
+/// all matching rules in table order, once for each rule, and 0 in every place after them.
+///
+/// ```
+/// use kolfsein::{Decision, Reason, Request};
+///
+/// // One permit rule, with card 10, for every subject and resource up to 2 and 1, and for action 0.
+/// let table = [0, 17, 1, 2, 1, 1, 0, 1, 4, 0, 1, 0, 10, 0, 2, 0, 1, 0, 0];
+/// let request = Request { subject: 2, resource: 1, action: 0 };
+/// let mut cards = [7; 3];
+/// let ruling = kolfsein::rule(&table, request, &mut cards)?;
+/// assert_eq!((ruling.decision, ruling.count), (Decision::Permit, 1));
+/// assert_eq!(cards, [10, 0, 0]);
+///
+/// let refusal = kolfsein::rule(&table, request, &mut []).unwrap_err();
+/// assert_eq!(refusal.reason, Reason::ListTooShort);
+/// # Ok::<(), kolfsein::Refusal>(())
+/// ```
+///
+/// # Errors
+///
+/// The first refusal in this order: those of [`read`], then [`Value`](Reason::Value), then
+/// [`ListTooShort`](Reason::ListTooShort). The list is then all 0.
+pub fn rule(table: &[u8], request: Request, cards: &mut [u16]) -> Result<Ruling, Refusal> {
+    // SAFETY: each slice's pointer is valid for its length, and a list that is lent to be written overlaps nothing.
+    let answer = unsafe {
+        c::kolfsein_rule(
+            table.as_ptr(),
+            table.len(),
+            request.subject,
+            request.resource,
+            request.action,
+            cards.as_mut_ptr(),
+            cards.len(),
+        )
+    };
+    answer.ruled()
+}
+
+/// Builds the decision diagram of a table into the places lent: how many it uses. The places then hold the diagram,
+/// and 0 after it. It rules as the table's groups do on every request within the table's maxima. Two tables with the
+/// same maxima have equal diagrams, number for number, exactly where they rule alike, cards included.
+///
+/// ```
+/// use kolfsein::Reason;
+///
+/// // One permit rule, with card 10, for every subject and resource up to 2 and 1, and for action 0.
+/// let table = [0, 17, 1, 2, 1, 1, 0, 1, 4, 0, 1, 0, 10, 0, 2, 0, 1, 0, 0];
+/// let mut diagram = vec![0; kolfsein::MOST_PLACES];
+/// let used = kolfsein::build(&table, &mut diagram)?;
+/// assert_eq!(used, 26);
+/// assert_eq!(diagram[..5], [26, 22, 2, 1, 1]); // places used, the root's place, the maxima
+///
+/// let refusal = kolfsein::build(&table, &mut diagram[..25]).unwrap_err();
+/// assert_eq!(refusal.reason, Reason::Room);
+/// # Ok::<(), kolfsein::Refusal>(())
+/// ```
+///
+/// # Errors
+///
+/// The first refusal in this order: those of [`read`], then [`Room`](Reason::Room). The places are then all 0.
+pub fn build(table: &[u8], diagram: &mut [u16]) -> Result<usize, Refusal> {
+    // SAFETY: each slice's pointer is valid for its length, and a diagram that is lent to be written overlaps nothing.
+    let answer = unsafe {
+        c::kolfsein_build(
+            table.as_ptr(),
+            table.len(),
+            diagram.as_mut_ptr(),
+            diagram.len(),
+        )
+    };
+    answer.counted()
+}
+
+/// Rules on a request by a diagram: the decision, and how many cards, both of the terminal that the request reaches.
+/// The list then holds the terminal's cards, and 0 in every place after them.
+///
+/// A diagram may come from anyone: each call sees whether it is sound, in one pass over the places that it uses. What
+/// stands after those makes no difference.
+///
+/// ```
+/// use kolfsein::{Decision, Reason, Request};
+///
+/// let mut diagram = [
+///     20, 16, 2, 1, 1, // 20 places used, the root at 16, the maxima 2, 1 and 1
+///     0, 3, 0, // at 5, a terminal: indeterminate, no cards
+///     3, 1, 1, 5, // at 8, for every action up to 1 the terminal
+///     2, 1, 1, 8, // at 12, for every resource
+///     1, 1, 2, 12, // at 16, for every subject
+/// ];
+/// let request = Request { subject: 2, resource: 1, action: 0 };
+/// let ruling = kolfsein::look_up(&diagram, request, &mut [])?;
+/// assert_eq!((ruling.decision, ruling.count), (Decision::Indeterminate, 0));
+///
+/// diagram[1] = 17;
+/// let refusal = kolfsein::look_up(&diagram, request, &mut []).unwrap_err();
+/// assert_eq!(refusal.reason, Reason::Diagram);
+/// # Ok::<(), kolfsein::Refusal>(())
+/// ```
+///
+/// # Errors
+///
+/// The first refusal in this order: [`Diagram`](Reason::Diagram), [`Value`](Reason::Value),
+/// [`ListTooShort`](Reason::ListTooShort). The list is then all 0.
+pub fn look_up(diagram: &[u16], request: Request, cards: &mut [u16]) -> Result<Ruling, Refusal> {
+    // SAFETY: each slice's pointer is valid for its length, and a list that is lent to be written overlaps nothing.
+    let answer = unsafe {
+        c::kolfsein_look_up(
+            diagram.as_ptr(),
+            diagram.len(),
+            request.subject,
+            request.resource,
+            request.action,
+            cards.as_mut_ptr(),
+            cards.len(),
+        )
+    };
+    answer.ruled()
+}

@@ -1,0 +1,109 @@
+//! A plain evaluator of tables and diagrams, written from the requirements alone. It uses nothing of the library.
+
+mod diagram;
+mod reader;
+mod ruling;
+mod walk;
+
+pub use diagram::Diagram;
+pub use reader::Table;
+
+/// A value for each field: subject, resource, action.
+pub type Values = [u16; 3];
+
+/// A refusal's number and place.
+#[derive(Clone, Copy, Debug)]
+pub struct Refused(pub u8, pub usize);
+
+/// A decision by its number, and the cards.
+#[derive(Clone, Debug)]
+pub struct Ruled {
+    pub decision: u8,
+    pub cards: Vec<u16>,
+}
+
+/// What a call should hand back, and what what it was lent should start with; zeros follow.
+#[derive(Clone, Debug, Default)]
+pub struct Due {
+    pub number: u8,
+    pub place: usize,
+    pub decision: u8,
+    pub count: usize,
+    pub numbers: Vec<u16>,
+}
+
+impl Due {
+    pub fn refused(Refused(number, place): Refused) -> Due {
+        Due {
+            number,
+            place,
+            ..Due::default()
+        }
+    }
+
+    /// A reading: the number of nodes.
+    pub fn read(table: &Result<Table, Refused>) -> Due {
+        match table {
+            Ok(table) => Due {
+                count: table.nodes.len(),
+                ..Due::default()
+            },
+            Err(refused) => Due::refused(*refused),
+        }
+    }
+
+    /// A ruling with a list of so many places: 10 where it is shorter than the cards.
+    pub fn listed(ruled: &Result<Ruled, Refused>, places: usize) -> Due {
+        match ruled {
+            Ok(ruled) if places < ruled.cards.len() => Due::refused(Refused(10, 0)),
+            Ok(ruled) => Due {
+                decision: ruled.decision,
+                count: ruled.cards.len(),
+                numbers: ruled.cards.clone(),
+                ..Due::default()
+            },
+            Err(refused) => Due::refused(*refused),
+        }
+    }
+
+    /// A build in a room of so many places: 11 where the walk's diagram needs over 32,768 places or more than lent.
+    pub fn built(walked: &Result<Vec<usize>, Refused>, room: usize) -> Due {
+        match walked {
+            Ok(walked) if walked.len() > 32_768 || walked.len() > room => {
+                Due::refused(Refused(11, 0))
+            }
+            Ok(walked) => Due {
+                count: walked.len(),
+                numbers: walked.iter().map(|&n| n as u16).collect(),
+                ..Due::default()
+            },
+            Err(refused) => Due::refused(*refused),
+        }
+    }
+}
+
+/// What a table gives a request, or the first of refusals 1 to 9.
+pub fn rule(table: &Result<Table, Refused>, values: Values) -> Result<Ruled, Refused> {
+    table.as_ref().map_err(|&refused| refused)?.rule(values)
+}
+
+/// The diagram of a table, or the first of refusals 1 to 8.
+pub fn walk(table: &Result<Table, Refused>) -> Result<Vec<usize>, Refused> {
+    Ok(table.as_ref().map_err(|&refused| refused)?.walk())
+}
+
+/// What a diagram gives a request, or refusal 12 or 9.
+pub fn look_up(diagram: &Result<Diagram, Refused>, values: Values) -> Result<Ruled, Refused> {
+    diagram
+        .as_ref()
+        .map_err(|&refused| refused)?
+        .look_up(values)
+}
+
+/// Refusal 9: the first field whose value is over its maximum.
+fn within(values: Values, maxima: Values) -> Result<(), Refused> {
+    match (0..3).find(|&field| values[field] > maxima[field]) {
+        Some(field) => Err(Refused(9, field)),
+        None => Ok(()),
+    }
+}

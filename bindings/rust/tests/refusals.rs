@@ -1,0 +1,62 @@
+//! Numbers and texts of the refusals, and slices of length 0, whose pointers point nowhere.
+
+use std::error::Error;
+
+use kolfsein::{build, look_up, read, rule, Reason, Refusal, Request};
+
+const REASONS: [Reason; 12] = [
+    Reason::Length,
+    Reason::Version,
+    Reason::NodeCount,
+    Reason::Kind,
+    Reason::Span,
+    Reason::Level,
+    Reason::Range,
+    Reason::Card,
+    Reason::Value,
+    Reason::ListTooShort,
+    Reason::Room,
+    Reason::Diagram,
+];
+
+#[test]
+fn numbers_and_texts() {
+    for (before, reason) in REASONS.into_iter().enumerate() {
+        let number = before + 1;
+        assert_eq!(reason as usize, number);
+        let refusal: Box<dyn Error> = Box::new(Refusal { reason, place: 2 });
+        let place = match number {
+            4..=8 => " at node 2",
+            9 => " at field 2",
+            _ => "",
+        };
+        assert_eq!(
+            refusal.to_string(),
+            format!("refusal {number}{place}: {reason}")
+        );
+    }
+}
+
+#[test]
+fn empty_slices() {
+    let request = Request {
+        subject: 0,
+        resource: 0,
+        action: 0,
+    };
+    let refused = |reason| Refusal { reason, place: 0 };
+    let one_rule = [0, 17, 1, 0, 0, 0, 0, 1, 4, 0, 1, 0, 10, 0, 0, 0, 0, 0, 0];
+    let too_short = refused(Reason::ListTooShort);
+    assert_eq!(read(&[]), Err(refused(Reason::Length)));
+    assert_eq!(rule(&[], request, &mut []), Err(refused(Reason::Length)));
+    assert_eq!(rule(&one_rule, request, &mut []), Err(too_short));
+    assert_eq!(build(&[], &mut []), Err(refused(Reason::Length)));
+    assert_eq!(build(&one_rule, &mut []), Err(refused(Reason::Room)));
+    assert_eq!(
+        look_up(&[], request, &mut []),
+        Err(refused(Reason::Diagram))
+    );
+    let mut diagram = [0; 21];
+    assert_eq!(build(&one_rule, &mut diagram), Ok(21));
+    assert_eq!(look_up(&diagram, request, &mut []), Err(too_short));
+}
