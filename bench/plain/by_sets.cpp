@@ -1,0 +1,205 @@
+// Building in plain C++ by the sets of rules that may still match.
+#include <algorithm>
+#include <array>
+#include <cstddef>
+#include <cstdint>
+#include <vector>
+
+#include "plain/entries.hpp"
+#include "plain/parsed.hpp"
+#include "plain/plain.hpp"
+
+namespace plain {
+
+namespace {
+
+// A set of nodes.
+struct Set {
+    uint64_t words[2] = {0, 0};
+
+    void flip(size_t i) { words[i / 64] ^= uint64_t{1} << i % 64; }
+    Set operator&(const Set &other) const { return {{words[0] & other.words[0], words[1] & other.words[1]}}; }
+    Set operator^(const Set &other) const { return {{words[0] ^ other.words[0], words[1] ^ other.words[1]}}; }
+    bool operator==(const Set &other) const { return words[0] == other.words[0] && words[1] == other.words[1]; }
+    bool operator!=(const Set &other) const { return !(*this == other); }
+
+    size_t hash() const {
+        uint64_t mixed = words[0] * 0x9E3779B97F4A7C15u;
+        mixed = (mixed ^ (mixed >> 32) ^ words[1]) * 0xC2B2AE3D27D4EB4Fu;
+        return mixed ^ (mixed >> 29);
+    }
+};
+
+// Places by set, in a power of two of slots.
+class Memo {
+public:
+    // The place remembered; 0 where there is none.
+    size_t find(const Set &set) const { return slots_[slot_of(set)].place; }
+
+    void remember(const Set &set, size_t place) {
+        slots_[slot_of(set)] = {set, static_cast<uint16_t>(place)};
+        if (2 * ++count_ > slots_.size()) {
+            grow();
+        }
+    }
+
+private:
+    struct Slot {
+        Set set;
+        uint16_t place = 0;  // 0: free
+    };
+
+    size_t slot_of(const Set &set) const {
+        const size_t mask = slots_.size() - 1;
+        size_t slot = set.hash() & mask;
+        while (slots_[slot].place != 0 && slots_[slot].set != set) {
+            slot = (slot + 1) & mask;
+        }
+        return slot;
+    }
+
+    void grow() {
+        std::vector<Slot> before(4 * slots_.size());
+        before.swap(slots_);
+        for (const Slot &taken : before) {
+            if (taken.place != 0) {
+                slots_[slot_of(taken.set)] = taken;
+            }
+        }
+    }
+
+    std::vector<Slot> slots_ = std::vector<Slot>(64);
+    size_t count_ = 0;
+};
+
+// Goes down with the set of rules that may still match: a ruling depends only on which rules match. Values of a field
+// that the same rules hold stand in one run, and a set that was met at a level has its place remembered.
+class SetWalk {
+public:
+    SetWalk(const Parsed &table, Entries &entries) : table_(table), entries_(entries) { find_runs(); }
+
+    size_t root() { return walk(0, all_); }
+
+private:
+    struct Run {
+        size_t last;
+        Set rules;
+    };
+
+    // A rule's range in a field is what its own range and all those above it share. A rule that has none in some field
+    // never matches and is in no set.
+    void find_runs() {
+        struct Box {
+            uint8_t low[FIELDS], high[FIELDS];
+        };
+        std::array<Box, MOST_NODES> boxes;
+        std::array<std::array<Set, 257>, FIELDS> changes{};
+        for (size_t i = 0; i < table_.count; ++i) {
+            const Node &node = table_.nodes[i];
+            bool possible = true;
+            for (size_t field = 0; field < FIELDS; ++field) {
+                boxes[i].low[field] = node.low[field];
+                boxes[i].high[field] = node.high[field];
+                if (i > 0) {
+                    boxes[i].low[field] = std::max(node.low[field], boxes[node.parent].low[field]);
+                    boxes[i].high[field] = std::min(node.high[field], boxes[node.parent].high[field]);
+                }
+                possible = possible && boxes[i].low[field] <= boxes[i].high[field];
+            }
+            if (!possible || !node.is_rule()) {
+                continue;
+            }
+            all_.flip(i);
+            for (size_t field = 0; field < FIELDS; ++field) {
+                changes[field][boxes[i].low[field]].flip(i);
+                changes[field][boxes[i].high[field] + 1u].flip(i);
+            }
+        }
+        for (size_t field = 0; field < FIELDS; ++field) {
+            Set rules;
+            for (size_t value = 0; value <= table_.maxima[field]; ++value) {
+                if (value == 0 || changes[field][value] != Set{}) {
+                    rules = rules ^ changes[field][value];
+                    runs_[field].push_back({value, rules});
+                }
+                runs_[field].back().last = value;
+            }
+        }
+    }
+
+    size_t walk(size_t field, const Set &possible) {
+        if (field == FIELDS) {
+            return terminal(possible);
+        }
+        OpenNode node(field);
+        Set before;
+        size_t child = 0;
+        for (const Run &run : runs_[field]) {
+            const Set rules = possible & run.rules;
+            if (child == 0 || rules != before) {
+                child = place_of(field + 1, rules);
+                if (child == NO_PLACE) {
+                    return NO_PLACE;
+                }
+                before = rules;
+            }
+            node.extend(run.last, child);
+        }
+        return node.enter(entries_);
+    }
+
+    size_t place_of(size_t field, const Set &rules) {
+        Memo &memo = memos_[field - 1];
+        size_t place = memo.find(rules);
+        if (place == 0) {
+            place = walk(field, rules);
+            if (place != NO_PLACE) {
+                memo.remember(rules, place);
+            }
+        }
+        return place;
+    }
+
+    // What the table gives where these rules match: they are gone through upward, and the groups above each are opened.
+    size_t terminal(const Set &rules) {
+        OpenTerminal terminal;
+        OpenGroups groups;
+        for (size_t half = 0; half < 2; ++half) {
+            for (uint64_t left = rules.words[half]; left != 0; left &= left - 1) {
+                const size_t i = 64 * half + static_cast<size_t>(__builtin_ctzll(left));
+                const Node &rule = table_.nodes[i];
+                groups.close_before(i);
+                if (i > 0) {
+                    open_down_to(groups, rule.parent);
+                }
+                terminal.add(rule.card);
+                groups.take(rule.effect());
+            }
+        }
+        return terminal.enter(entries_, groups.close_all());
+    }
+
+    void open_down_to(OpenGroups &groups, size_t group) {
+        if (groups.innermost() == group) {
+            return;
+        }
+        if (group > 0) {
+            open_down_to(groups, table_.nodes[group].parent);
+        }
+        groups.open(group, table_.nodes[group]);
+    }
+
+    const Parsed &table_;
+    Entries &entries_;
+    Set all_;
+    std::array<std::vector<Run>, FIELDS> runs_;
+    std::array<Memo, FIELDS> memos_;
+};
+
+}  // namespace
+
+kolfsein_answer build_by_sets(const uint8_t *table, size_t table_len, uint16_t *diagram, size_t diagram_len) {
+    return build<SetWalk>(table, table_len, diagram, diagram_len);
+}
+
+}  // namespace plain

@@ -1,0 +1,7 @@
+// The sections: each prints its tables.
+#pragma once
+
+void rule_section();
+void build_section();
+void growth_section();
+void look_up_section();
