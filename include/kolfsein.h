@@ -83,7 +83,8 @@ kolfsein_answer kolfsein_rule(const uint8_t *table, size_t table_len,
  * within the table's maxima. Two tables' diagrams are equal, number for number in the places used, exactly when the
  * tables have the same maxima and rule alike, cards included.
  * Otherwise the first refusal in this order: those of kolfsein_read, then 11. The places are then all 0.
- * A call rules on each request within the maxima once, as long as there is room, and takes up to some 37 KB of stack.
+ * What leaves the same nodes possible is walked once, so the time does not follow the size of the fields. A call takes
+ * some 67 KB of stack.
  */
 kolfsein_answer kolfsein_build(const uint8_t *table, size_t table_len, uint16_t *diagram, size_t diagram_len);
 
