@@ -8,25 +8,21 @@ use Prim.Native.Nat.{ℕ, _+_, _≤_, _<_}
 use native.Mathlib.Nat.{eq-or-lt-of-le}
 use native.Mathlib.Omega.{arith}
 use borrow.Author.Tests.{lt-ltb, le-ltb, eq-eqb, ne-eqb}
-use lib.Dec.{eqb, leb, ltb}
+use lib.Dec.{eqb, ltb}
 use Rattle.answer.proofs.Tests.{lt-or-ge}
 use Rattle.table.specs.Layout.{span, low, high, count}
 use Rattle.table.specs.Tree.{endOf}
 use Rattle.table.specs.WellFormed.{WellFormed}
 use Rattle.ruling.specs.Targets.{inRange}
-use Rattle.ruling.proofs.FieldByField.{in-range-high, in-range-low}
 use Rattle.ruling.proofs.Throughout.{PassAbove, throughout-under, throughout-is, pass-root, pass-child, pass-after}
 use Rattle.sets.specs.Sets.{has, Has}
 use Rattle.sets.specs.declared.Set.{Set}
 use Rattle.applying.specs.Members.{rangeHolds, appliesIn, member}
 
 module _ (t : List ℕ) (f v : ℕ) where
-  -- node i's range of the field, as the code tests it
-  pub high-tested : (i l h : ℕ) → l ≡ low t i f → h ≡ high t i f → l ≤ v → leb v h ≡ rangeHolds t f v i
-  high-tested i l h el eh le = in-range-high l h v le ∙ ap₂ (λ x y. inRange x y v) el eh
-
-  pub low-tested : (i l : ℕ) → l ≡ low t i f → v < l → false ≡ rangeHolds t f v i
-  low-tested i l el lt = in-range-low l (high t i f) v lt ∙ ap (λ x. inRange x (high t i f) v) el
+  -- node i's range of the field, as it is tested
+  pub range-tested : (i l h : ℕ) (b : Bool) → l ≡ low t i f → h ≡ high t i f → b ≡ inRange l h v → b ≡ rangeHolds t f v i
+  range-tested i l h b el eh e = e ∙ ap₂ (λ x y. inRange x y v) el eh
 
   -- where every range above a node holds, it applies in the field where its own does
   applies-is : (i : ℕ) → PassAbove t (rangeHolds t f v) i → 1 ≤ span t i → appliesIn t f v i ≡ rangeHolds t f v i

@@ -1,5 +1,6 @@
 // For each value of a field, the set of nodes that apply there in that field alone.
 use answer::FIELDS;
+use ruling::targets::in_range;
 use sets::Set;
 use table::layout::count_at;
 use table::layout::high_at;
@@ -24,11 +25,9 @@ fn holds(table: &[u8], field: usize, value: u8, i: usize) -> bool
     requires { ⌜ (start (i + 1) ≤ length (now table)) × (field < fields) ⌝ }
     ensures { λ r. ⌜ r ≡ rangeHolds (now (table .entry)) field value i ⌝ }
 {
-    if low_at(table, i, field) <= value {
-        value <= high_at(table, i, field)
-    } else {
-        false
-    }
+    let low = low_at(table, i, field);
+    let high = high_at(table, i, field);
+    in_range(low, high, value as u16)
 }
 
 // The nodes that apply in a field alone at a value: a node whose range fails is skipped with all nodes under it.

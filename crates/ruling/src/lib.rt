@@ -1,6 +1,6 @@
 // Ruling by a table's groups, with every matching card.
 pub mod groups;
 mod ruling;
-mod targets;
+pub mod targets;
 
 pub use ruling::rule;

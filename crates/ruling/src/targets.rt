@@ -26,7 +26,7 @@ pub(crate) fn field_fault(table: &[u8], values: &[u16; FIELDS]) -> usize
 }
 
 // Whether a value lies in a range, both ends included.
-fn in_range(low: u8, high: u8, value: u16) -> bool
+pub fn in_range(low: u8, high: u8, value: u16) -> bool
     ensures { λ r. ⌜ r ≡ inRange low high value ⌝ }
 {
     if low as u16 <= value {

@@ -11,9 +11,10 @@ use lib.Count.{trailingZeros, under}
 use lib.Pow.{shr-lt}
 use lib.Dec.{eqb}
 use lib.Arith.{lt-one}
+use Rattle.answer.proofs.Tests.{lt-or-ge}
 use Rattle.sets.specs.Sets.{bit, has, Next}
 use Rattle.sets.specs.declared.Set.{Set}
-use Rattle.sets.proofs.WordPlaces.{lt-or-ge, bit-none, bit-past, bit-first, bit-later, bit-shifted}
+use Rattle.sets.proofs.WordPlaces.{bit-none, bit-past, bit-first, bit-later, bit-shifted}
 use Rattle.sets.proofs.SetNumbers.{has-low, has-high}
 
 -- place r of a word is set, and none before it

@@ -7,9 +7,10 @@ use Prim.Native.Nat.{ℕ, _-_, _≤_, _<_}
 use native.Mathlib.Omega.{arith}
 use borrow.Author.Tests.{eq-eqb, ne-eqb, lt-ltb, le-ltb, eqb-true, eqb-false}
 use lib.Dec.{eqb, ltb}
+use Rattle.answer.proofs.Tests.{lt-or-ge}
 use Rattle.sets.specs.Sets.{most, bit, has, Has, same}
 use Rattle.sets.specs.declared.Set.{Set}
-use Rattle.sets.proofs.WordPlaces.{lt-or-ge, ltb-alike, bit-zero, bit-all}
+use Rattle.sets.proofs.WordPlaces.{ltb-alike, bit-zero, bit-all}
 
 pub has-low : (s : Set) (i : ℕ) → i < 64 → has s i ≡ bit (s .low) i
 unfolding has

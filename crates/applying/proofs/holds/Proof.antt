@@ -1,7 +1,7 @@
--- `applying::holds` meets its contract: the low end is tested first, then the high end.
+-- `applying::holds` meets its contract: the range test of ruling, on the ends of node i's range.
 -- Assumes nothing.
 use borrow.Author.Needs.{needs}
-use Rattle.applying.proofs.FieldAlone.{high-tested, low-tested}
+use Rattle.applying.proofs.FieldAlone.{range-tested}
 use Rattle.applying.proofs.holds.Statement.{statement}
 use Rattle.applying.proofs.holds.Tie as tie
 
@@ -11,15 +11,13 @@ low-at-requires c κs = search needs
 high-at-requires : tie.Need-high-at-requires
 high-at-requires c κs = search needs
 
+in-range-requires : tie.Need-in-range-requires
+in-range-requires c κs = search needs
+
 returns : tie.Need-returns
 returns c =
     let s = c .before .before .before .before .args in
-    high-tested (s .table .now) (s .field) (s .value) (s .i) (c .before .before .low-at .result) (c .high-at .result) (c .before .before .low-at .ensures) (c .high-at .ensures) (c .before .if1 .taken)
-
-returns-2 : tie.Need-returns-2
-returns-2 c =
-    let s = c .before .before .before .args in
-    low-tested (s .table .now) (s .field) (s .value) (s .i) (c .before .low-at .result) (c .before .low-at .ensures) (c .if1 .left)
+    range-tested (s .table .now) (s .field) (s .value) (s .i) (c .before .before .low-at .result) (c .before .high-at .result) (c .in-range .result) (c .before .before .low-at .ensures) (c .before .high-at .ensures) (c .in-range .ensures)
 
 pub holds-spec : {M : Type 1} → statement M
-holds-spec = tie.close (tie.spec low-at-requires high-at-requires returns returns-2)
+holds-spec = tie.close (tie.spec low-at-requires high-at-requires in-range-requires returns)
