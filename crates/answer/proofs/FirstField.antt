@@ -8,6 +8,7 @@ use Prim.Native.Nat.{ℕ, zero, suc, _+_, _-_, _≤_, _<_}
 use native.Mathlib.Nat.{eq-or-lt-of-le}
 use native.Mathlib.Omega.{arith}
 use borrow.Author.Tests.{lt-ltb, le-ltb, ltb-true, ltb-false}
+use lib.Dec.{ltb}
 use Rattle.answer.specs.Fields.{fields}
 use Rattle.answer.specs.Requests.{value, Within, valueFault, firstFrom, fieldFault}
 
@@ -55,6 +56,19 @@ module _ (p : ℕ → Bool) where
 
   pub search-ends : (i n : ℕ) → n ≤ i → firstFrom p i (n - i) ≡ i
   search-ends i n l = let z : n - i ≡ 0 = omega arith in ap (firstFrom p i) z
+
+-- two tests that say the same of the k numbers
+first-alike : (p r : ℕ → Bool) (k i : ℕ) → ((j : ℕ) → i ≤ j → j < i + k → p j ≡ r j) → firstFrom p i k ≡ firstFrom r i k
+first-alike p r zero i h = refl
+first-alike p r (suc k) i h =
+    ap (λ b. cond b i (firstFrom p (i + 1) k)) (h i (omega arith) (omega arith))
+    ∙ ap (cond (r i) i) (first-alike p r k (i + 1) (λ j l m. h j (omega arith) (omega arith)))
+
+-- maxima that are the same for each field
+pub fault-alike : (m n : ℕ → ℕ) (q : List ℕ) → ((f : ℕ) → f < fields → m f ≡ n f) → fieldFault m q ≡ fieldFault n q
+unfolding fieldFault
+fault-alike m n q h =
+    first-alike (valueFault m q) (valueFault n q) fields 0 (λ f l r. ap (λ k. ltb k (value q f)) (h f (omega arith)))
 
 module _ (maximum : ℕ → ℕ) (q : List ℕ) where
   -- a request within the maxima has no faulty field

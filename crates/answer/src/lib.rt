@@ -3,7 +3,9 @@ ghost use mathlib.Core.Path.{_≡_};
 ghost use Prim.Native.Nat.{_≤_};
 ghost use lib.ListN.{length};
 ghost use lib.Seq.{sets};
+ghost use Rattle.answer.specs.Fields.{fields};
 ghost use Rattle.answer.specs.Answers.{refused, blank, counted, ruled, zeros};
+ghost use Rattle.answer.specs.Requests.{value, fieldFault};
 
 // How many fields a request has: subject, resource, action.
 pub const FIELDS: usize = 3;
@@ -72,15 +74,30 @@ pub struct Request {
     pub values: [u16; FIELDS],
 }
 
+// Refusal 9: the first field whose value is over its maximum, or FIELDS.
+pub fn field_fault(maxima: &[u16], values: &[u16; FIELDS]) -> usize
+    requires { ⌜ fields ≤ length (now maxima) ⌝ }
+    ensures { λ r. ⌜ r ≡ fieldFault (value (now (maxima .entry))) (now (values .entry)) ⌝ }
+{
+    let mut field = 0;
+    while field < FIELDS {
+        if maxima[field] < values[field] {
+            return field;
+        }
+        field += 1;
+    }
+    FIELDS
+}
+
 // Zeros throughout a lent list or a lent diagram.
 pub fn clear(list: &mut [u16])
     ensures { λ _. ⌜ now (list .exit) ≡ zeros (length (now (list .entry))) ⌝ }
 {
     let n = list.len();
-    let mut i = 0;
-    while i < n {
-        list[i] = 0;
-        i += 1;
+    let mut place = 0;
+    while place < n {
+        list[place] = 0;
+        place += 1;
     }
 }
 

@@ -49,20 +49,6 @@ module _ (t : List ℕ) (a : ℕ → Bool) (list stored : List ℕ) (decision co
 abbrev pub headOf : ℕ → ℕ → List ℕ → List ℕ
 headOf used root t = used ∷ root ∷ maxima t
 
--- the maxima before a field's are written, after the first two numbers of the header
-abbrev pub Written : List ℕ → List ℕ → ℕ → List ℕ → Type 0
-Written t d field list = list ≡ sets d 2 (take field (maxima t))
-
-module _ (t d : List ℕ) (h : header ≤ length t) (field : ℕ) (list : List ℕ) (w : Written t d field list) where
-  pub written-more : (m : ℕ) → field < fields → m ≡ maximum t field → Written t d (field + 1) (set list (2 + field) m)
-  written-more m l e =
-      ap (λ x. set x (2 + field) m) w
-      ∙ ap (set (sets d 2 (take field (maxima t))) (2 + field)) (e ∙ sym (maxima-each t field l))
-      ∙ stored-on (maxima t) d 2 field (omega (arith, maxima-length t h))
-
-  pub written-all : field ≡ fields → list ≡ sets d 2 (maxima t)
-  written-all e = w ∙ ap (sets d 2) (take-all field (maxima t) (omega (arith, maxima-length t h)))
-
 -- numbers written over as many zeros, with others and zeros after them
 pub over-zeros : (vs ns : List ℕ) (n : ℕ) → sets (padded (zeros (length vs) ++ ns) n) 0 vs ≡ padded (vs ++ ns) n
 over-zeros vs ns n =

@@ -16,6 +16,7 @@ use Rattle.diagram.specs.LookUp.{edge, lookUp}
 use Rattle.diagram.specs.Decided.{yes?, le?, lt?, eq?, iff?, not?, and?, or?, when?, one-more?, each?}
 use Rattle.diagram.specs.SoundIsDecided.{scan?, start?, entry-before?, terminal-holds?, sound-terminal?, sound-node?, sound-entry?, sound?}
 use Rattle.diagram.specs.LookedUp.{lookedUp, lookedUpList}
+use Rattle.diagram.specs.SmallRulebook.{diagramT}
 
 abbrev gives : ℕ → List ℕ → Ruling
 gives decision cards = record { decision = decision; cards = cards }
@@ -38,23 +39,6 @@ listedT =
 -- as a function of the request
 abbrev pub rulingsT : List ℕ → Ruling
 rulingsT q = getD listedT (4 * value q 0 + 2 * value q 1 + value q 2) none
-
--- T's diagram, an entry to a line
-abbrev pub diagramT : List ℕ
-diagramT =
-    63 ∷ 55 ∷ 2 ∷ 1 ∷ 1
-    ∷ 0 ∷ 1 ∷ 1 ∷ 10
-    ∷ 0 ∷ 0 ∷ 0
-    ∷ 3 ∷ 2 ∷ 0 ∷ 5 ∷ 1 ∷ 9
-    ∷ 2 ∷ 1 ∷ 1 ∷ 12
-    ∷ 0 ∷ 1 ∷ 1 ∷ 30
-    ∷ 3 ∷ 2 ∷ 0 ∷ 5 ∷ 1 ∷ 22
-    ∷ 2 ∷ 2 ∷ 0 ∷ 12 ∷ 1 ∷ 26
-    ∷ 0 ∷ 2 ∷ 2 ∷ 10 ∷ 20
-    ∷ 3 ∷ 2 ∷ 0 ∷ 38 ∷ 1 ∷ 9
-    ∷ 2 ∷ 2 ∷ 0 ∷ 43 ∷ 1 ∷ 12
-    ∷ 1 ∷ 3 ∷ 0 ∷ 18 ∷ 1 ∷ 32 ∷ 2 ∷ 49
-    ∷ []
 
 -- "Its diagram has 63 places, root at 55."
 pub walked-T : diagram (2 ∷ 1 ∷ 1 ∷ []) rulingsT ≡ diagramT

@@ -6,12 +6,13 @@ use mathlib.Core.List.{List}
 use Prim.Native.Nat.{ℕ, _+_, _≤_, _<_}
 use native.Mathlib.Omega.{arith}
 use lib.ListN.{length, take, drop}
-use lib.Seq.{sets}
+use lib.Seq.{sets, getD-take, getD-drop}
 use Rattle.answer.specs.Fields.{fields}
 use Rattle.answer.specs.Answers.{refused, ruled, zeros, padded}
-use Rattle.answer.specs.Requests.{fieldFault}
+use Rattle.answer.specs.Requests.{value, fieldFault}
 use Rattle.answer.specs.Rulings.{answered, listed}
 use Rattle.answer.specs.declared.Answer.{Answer}
+use Rattle.answer.proofs.FirstField.{fault-alike}
 use Rattle.answer.proofs.Settling.{refuses, request-over, list-short, list-long}
 use Rattle.answer.proofs.Stored.{stored-padded}
 use Rattle.diagram.specs.Layout.{maximum, decisionAt, countAt}
@@ -21,6 +22,11 @@ use Rattle.diagram.specs.Landed.{Landed}
 use Rattle.diagram.specs.LookedUp.{lookedUp, lookedUpList}
 use Rattle.diagram.proofs.Deciding.{sound-is}
 use Rattle.diagram.proofs.Descent.{cards-counted}
+
+-- refusal 9 by the part of the diagram that holds the maxima
+pub maxima-fault : (d q : List ℕ) → fieldFault (value (take fields (drop 2 d))) q ≡ fieldFault (maximum d) q
+maxima-fault d q =
+    fault-alike (value (take fields (drop 2 d))) (maximum d) q (λ f l. getD-take fields (drop 2 d) f 0 l ∙ getD-drop 2 d f 0)
 
 module _ (d q : List ℕ) (n : ℕ) where
   -- the list shows the terminal's cards

@@ -8,3 +8,4 @@ pub mod Starts
 pub mod SoundIsDecided
 pub mod Landed
 pub mod LookedUp
+pub mod SmallRulebook

@@ -18,8 +18,8 @@ use Rattle.diagram.specs.Walk.{Entries, joined, Entered, enter}
 use Rattle.diagram.proofs.EntryPlaces.{joined-append}
 use Rattle.diagram.proofs.EntriesGrow.{by-entering}
 use Rattle.entering.specs.Index.{slots, Indexed, Finding}
-use Rattle.entering.specs.Laid.{IsEntry, AllEntries, Laid, NoRoom, Settled, Settling, Standing}
-use Rattle.entering.proofs.NumbersWritten.{rest-lent, rest-back, rest-kept}
+use Rattle.entering.specs.Laid.{IsEntry, AllEntries, Laid, Room, NoRoom, Settled, Settling, Standing}
+use Rattle.entering.proofs.NumbersWritten.{rest-lent, rest-back, rest-kept, rest-length}
 
 -- an entry takes places
 entry-some : (e : List ℕ) → IsEntry e → 1 ≤ length e
@@ -149,7 +149,7 @@ module _ (es : Entries) (d index : List ℕ) (end : ℕ) (e : List ℕ) (l : Lai
       go false s = record { laid = f s; at = s .at }
 
   -- nothing is written where an equal entry stands, or where there is no room
-  pub nothing-written : place < end → Leaves d
+  nothing-written : place < end → Leaves d
   nothing-written h =
       by-settled d
       (λ t.
@@ -162,7 +162,7 @@ module _ (es : Entries) (d index : List ℕ) (end : ℕ) (e : List ℕ) (l : Lai
       })
 
   -- a new entry is written after the last
-  pub one-written : IsEntry e → (place ≡ end) × (next ≡ end + length part) × (full ≡ false) → next ≤ length d →
+  one-written : IsEntry e → (place ≡ end) × (next ≡ end + length part) × (full ≡ false) → next ≤ length d →
       (rest : List ℕ) → rest ≡ sets (midOf end (length d - end) d) 0 e → Leaves (putMid end (length d - end) d rest)
   one-written i w room rest r =
       let z : next ≡ end + length e = w .1 ∙ ap (λ x. end + length x) same in
@@ -170,3 +170,35 @@ module _ (es : Entries) (d index : List ℕ) (end : ℕ) (e : List ℕ) (l : Lai
       (λ t.
       let new : enter (header fields) es e .entries ≡ es ++ (e ∷ []) = follows es d index end e l (omega (arith, t .at, w .0)) .0 in
       rw (new, z) (laid-more es d index end e l rest r (omega arith) after i (subst (λ y. Indexed y after) new (t .indexed))))
+
+-- The entry e was looked for, as the part of a slice, among those that stand in d.
+pub record Sought (d index : List ℕ) (end : ℕ) (e after : List ℕ) (full : Bool) (next place : ℕ) : Type 0 where
+  pub entry : IsEntry e
+  pub part : List ℕ
+  pub same : part ≡ e
+  pub room : Room (length d) next × (place < mostPlaces)
+  pub new : end ≤ place → (place ≡ end) × (next ≡ end + length part) × (full ≡ false)
+  pub settles : (es : Entries) → Laid es d index end → Settling (enter (header fields) es part) (length d) after full next place
+
+-- Entering it leaves `now`, whether it is a terminal or a node.
+module _ (d index : List ℕ) (end : ℕ) (e after : List ℕ) (full : Bool) (next place : ℕ) (s : Sought d index end e after full next place) where
+  abbrev Enters : List ℕ → Type 0
+  Enters now =
+      (Room (length d) next × (place < mostPlaces))
+      × ((es : Entries) → Laid es d index end → Standing (enter (header fields) es e) (length d) now after full next place)
+
+  -- an equal one stands, or there is no room
+  pub is-left : place < end → Enters d
+  is-left h = (s .room, λ es l. nothing-written es d index end e l (s .part) (s .same) after full next place (s .settles es l) h)
+
+  module _ (h : end ≤ place) where
+    -- the rest of the diagram has room for it
+    pub rest-fits : length e ≤ length (midOf end (length d - end) d)
+    rest-fits = omega (arith, s .new h .1, s .room .0 .1, ap length (s .same), rest-length d end (omega (arith, s .new h .1, s .room .0 .1)))
+
+    -- it is written there
+    pub is-written : (rest : List ℕ) → rest ≡ sets (midOf end (length d - end) d) 0 e → Enters (putMid end (length d - end) d rest)
+    is-written rest r = (
+      s .room,
+      λ es l. one-written es d index end e l (s .part) (s .same) after full next place (s .settles es l) (s .entry) (s .new h) (s .room .0 .1) rest r,
+    )

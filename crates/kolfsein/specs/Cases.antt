@@ -9,6 +9,7 @@ use Rattle.answer.specs.declared.Answer.{Answer}
 use Rattle.combining.specs.Ways.{notApplicable, permit, deny, indeterminate}
 use Rattle.table.specs.Layout.{maximum}
 use Rattle.ruling.specs.Ruling.{ruling, ruledList}
+use Rattle.diagram.specs.SmallRulebook.{diagramT}
 use Rattle.building.specs.Built.{built, builtDiagram}
 
 -- "The 63 bytes of table T", with the root's kind, which is 3 in T itself
@@ -37,23 +38,6 @@ unfoldable pub emptyRoot : ℕ → ℕ → ℕ → ℕ → List ℕ
 emptyRoot kind subject resource action =
     0 ∷ 17 ∷ 1 ∷ subject ∷ resource ∷ action ∷ 0 ∷ 1
     ∷ kind ∷ 0 ∷ 1 ∷ 0 ∷ 0 ∷ 0 ∷ subject ∷ 0 ∷ resource ∷ 0 ∷ action
-    ∷ []
-
--- "Its diagram has 63 places, root at 55.": an entry to a line
-abbrev pub diagramT : List ℕ
-diagramT =
-    63 ∷ 55 ∷ 2 ∷ 1 ∷ 1
-    ∷ 0 ∷ 1 ∷ 1 ∷ 10
-    ∷ 0 ∷ 0 ∷ 0
-    ∷ 3 ∷ 2 ∷ 0 ∷ 5 ∷ 1 ∷ 9
-    ∷ 2 ∷ 1 ∷ 1 ∷ 12
-    ∷ 0 ∷ 1 ∷ 1 ∷ 30
-    ∷ 3 ∷ 2 ∷ 0 ∷ 5 ∷ 1 ∷ 22
-    ∷ 2 ∷ 2 ∷ 0 ∷ 12 ∷ 1 ∷ 26
-    ∷ 0 ∷ 2 ∷ 2 ∷ 10 ∷ 20
-    ∷ 3 ∷ 2 ∷ 0 ∷ 38 ∷ 1 ∷ 9
-    ∷ 2 ∷ 2 ∷ 0 ∷ 43 ∷ 1 ∷ 12
-    ∷ 1 ∷ 3 ∷ 0 ∷ 18 ∷ 1 ∷ 32 ∷ 2 ∷ 49
     ∷ []
 
 -- an empty root's: "20 places, root at 16"

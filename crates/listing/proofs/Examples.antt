@@ -3,7 +3,7 @@
 use mathlib.Core.Path.{_≡_, refl}
 use mathlib.Core.List.{[], _∷_}
 use Rattle.diagram.specs.LookUp.{edge}
-use Rattle.diagram.proofs.Examples.{diagramT}
+use Rattle.diagram.specs.SmallRulebook.{diagramT}
 use Rattle.listing.specs.Text.{decimalUpTo, decimal, range, ranges, items, fieldsLine, line, refusedLine}
 use Rattle.listing.specs.Paths.{follows, ends, nextAt, nextFrom, nextOf}
 use Rattle.listing.specs.Listing.{inOrder, linesFrom, listing}

@@ -3,33 +3,19 @@ use answer::Answer;
 use answer::FIELDS;
 use answer::Request;
 use answer::clear;
+use answer::field_fault;
 use answer::store;
 use soundness::is_sound;
 ghost use mathlib.Core.Path.{_≡_};
 ghost use Prim.Native.Nat.{_+_, _*_, _-_, _≤_, _<_};
 ghost use lib.ListN.{length};
 ghost use Rattle.answer.specs.Fields.{fields};
-ghost use Rattle.answer.specs.Requests.{Within, fieldFault};
-ghost use Rattle.diagram.specs.Layout.{header, mostPlaces, maximum, levelAt, edgesAt};
+ghost use Rattle.answer.specs.Requests.{Within};
+ghost use Rattle.diagram.specs.Layout.{mostPlaces, maximum, levelAt, edgesAt};
 ghost use Rattle.diagram.specs.LookUp.{edge, child};
 ghost use Rattle.diagram.specs.Sound.{SoundNode, Sound};
 ghost use Rattle.diagram.specs.Landed.{Landed};
 ghost use Rattle.diagram.specs.LookedUp.{lookedUp, lookedUpList};
-
-// The first field whose value is over its maximum, or FIELDS.
-fn field_fault(diagram: &[u16], values: &[u16; FIELDS]) -> usize
-    requires { ⌜ header fields ≤ length (now diagram) ⌝ }
-    ensures { λ r. ⌜ r ≡ fieldFault (maximum (now (diagram .entry))) (now (values .entry)) ⌝ }
-{
-    let mut field = 0;
-    while field < FIELDS {
-        if diagram[2 + field] < values[field] {
-            return field;
-        }
-        field += 1;
-    }
-    FIELDS
-}
 
 // The edge of a value at the sound node at a place. Last values rise, so it is found by halving.
 pub fn edge_of(diagram: &[u16], place: usize, value: u16) -> usize
@@ -87,7 +73,7 @@ pub fn look_up(diagram: &[u16], request: Request, cards: &mut [u16]) -> Answer
         return Answer::refused(12, 0);
     }
     let values = request.values;
-    let field = field_fault(diagram, &values);
+    let field = field_fault(&diagram[2..2 + FIELDS], &values);
     if field < FIELDS {
         return Answer::refused(9, field);
     }

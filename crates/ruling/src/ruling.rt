@@ -1,10 +1,11 @@
 // Ruling by groups: refusals 1 to 10 in order, or the decision and the cards.
 use crate::groups::rule_read;
-use crate::targets::field_fault;
 use answer::Answer;
 use answer::FIELDS;
 use answer::Request;
 use answer::clear;
+use answer::field_fault;
+use table::layout::maxima_at;
 use table::read;
 ghost use mathlib.Core.Path.{_≡_};
 ghost use lib.ListN.{length};
@@ -21,7 +22,8 @@ pub fn rule(table: &[u8], request: Request, cards: &mut [u16]) -> Answer
         return reading;
     }
     let values = request.values;
-    let field = field_fault(table, &values);
+    let maxima = maxima_at(table);
+    let field = field_fault(&maxima, &values);
     if field < FIELDS {
         return Answer::refused(9, field);
     }

@@ -1,29 +1,12 @@
-// Values and ranges: refusal 9, and whether a target holds.
+// Whether a target holds: every value lies in its range.
 use answer::FIELDS;
 use table::layout::high_at;
 use table::layout::low_at;
-use table::layout::maximum_at;
 ghost use mathlib.Core.Path.{_≡_};
 ghost use Prim.Native.Nat.{_+_, _≤_};
 ghost use lib.ListN.{length};
-ghost use Rattle.answer.specs.Requests.{fieldFault};
-ghost use Rattle.table.specs.Layout.{maximum, header, start};
+ghost use Rattle.table.specs.Layout.{start};
 ghost use Rattle.ruling.specs.Targets.{inRange, targetHolds};
-
-// The first field whose value is over its maximum, or FIELDS.
-pub(crate) fn field_fault(table: &[u8], values: &[u16; FIELDS]) -> usize
-    requires { ⌜ header ≤ length (now table) ⌝ }
-    ensures { λ r. ⌜ r ≡ fieldFault (maximum (now (table .entry))) (now (values .entry)) ⌝ }
-{
-    let mut field = 0;
-    while field < FIELDS {
-        if (maximum_at(table, field) as u16) < values[field] {
-            return field;
-        }
-        field += 1;
-    }
-    FIELDS
-}
 
 // Whether a value lies in a range, both ends included.
 pub fn in_range(low: u8, high: u8, value: u16) -> bool

@@ -1,12 +1,16 @@
--- The maxima of a table: as many as there are fields, each that of its field, and at most 255.
+-- The maxima of a table: as many as there are fields, each that of its field, and at most 255; and written one after another.
 -- Assumes nothing.
-use mathlib.Core.Path.{_≡_, _∙_}
-use mathlib.Core.List.{List}
-use Prim.Native.Nat.{ℕ, _+_, _≤_, _<_}
+use mathlib.Core.Path.{_≡_, sym, ap, _∙_}
+use mathlib.Core.List.{List, _++_, append-nil}
+use Prim.Native.Nat.{ℕ, _+_, _-_, _≤_, _<_}
 use native.Mathlib.Omega.{arith}
-use lib.ListN.{length, getD, drop, length-drop}
-use lib.Seq.{length-take-le, getD-take, getD-drop}
+use lib.ListN.{length, getD, take, drop, set, length-drop}
+use lib.Seq.{sets, take-all, length-take-le, getD-take, getD-drop}
 use Rattle.answer.specs.Fields.{fields}
+use Rattle.answer.specs.Answers.{zeros}
+use Rattle.answer.specs.Requests.{value, fieldFault}
+use Rattle.answer.proofs.FirstField.{fault-alike}
+use Rattle.answer.proofs.Stored.{stored-on, stored-padded}
 use Rattle.table.specs.Layout.{Bytes, maximum, maxima, header}
 use Rattle.table.specs.Reading.{Accepted}
 use Rattle.table.proofs.Header.{accepted-header, headed}
@@ -23,6 +27,33 @@ module _ (t : List ℕ) where
   pub maxima-each : (f : ℕ) → f < fields → getD (maxima t) f 0 ≡ maximum t f
   maxima-each f l = getD-take fields (drop 3 t) f 0 l ∙ getD-drop 3 t f 0
 
+  -- refusal 9 by all of them
+  pub maxima-fault : (ms q : List ℕ) → ms ≡ maxima t → fieldFault (value ms) q ≡ fieldFault (maximum t) q
+  maxima-fault ms q e = ap (λ ns. fieldFault (value ns) q) e ∙ fault-alike (value (maxima t)) (maximum t) q maxima-each
+
   -- "(each 0 to 255)"
   pub maxima-bytes : Bytes t → (f : ℕ) → f < fields → getD (maxima t) f 0 ≤ 255
   maxima-bytes b f l = omega (arith, maxima-each f l, b (3 + f))
+
+-- the maxima before a field's are written from place k of a list on
+abbrev pub Written : List ℕ → List ℕ → ℕ → ℕ → List ℕ → Type 0
+Written t before k field list = list ≡ sets before k (take field (maxima t))
+
+module _ (t before : List ℕ) (h : header ≤ length t) (k field : ℕ) (list : List ℕ) (w : Written t before k field list) where
+  pub written-more : (m p : ℕ) → field < fields → m ≡ maximum t field → p ≡ k + field → Written t before k (field + 1) (set list p m)
+  written-more m p l e is =
+      ap (λ n. set list n m) is
+      ∙ ap (λ x. set x (k + field) m) w
+      ∙ ap (set (sets before k (take field (maxima t))) (k + field)) (e ∙ sym (maxima-each t field l))
+      ∙ stored-on (maxima t) before k field (omega (arith, maxima-length t h))
+
+  pub written-all : field ≡ fields → list ≡ sets before k (maxima t)
+  written-all e = w ∙ ap (sets before k) (take-all field (maxima t) (omega (arith, maxima-length t h)))
+
+-- over as many zeros
+pub written-alone : (t : List ℕ) → header ≤ length t → sets (zeros fields) 0 (maxima t) ≡ maxima t
+written-alone t h =
+    let none : fields - length (maxima t) ≡ 0 = omega (arith, maxima-length t h) in
+    stored-padded (maxima t) fields (omega (arith, maxima-length t h))
+    ∙ ap (λ n. maxima t ++ zeros n) none
+    ∙ append-nil (maxima t)

@@ -4,7 +4,7 @@ ghost use mathlib.Core.Path.{_≡_};
 ghost use Prim.Native.Nat.{_+_, _*_, _≤_, _<_};
 ghost use lib.ListN.{length};
 ghost use Rattle.answer.specs.Fields.{fields};
-ghost use Rattle.table.specs.Layout.{word, maximum, count, header, start, kind, span, card, low, high};
+ghost use Rattle.table.specs.Layout.{word, maximum, maxima, count, header, start, kind, span, card, low, high};
 
 // The header: bytes after the first two (2), version (1), a maximum for each field, number of nodes (2).
 pub const VERSION: usize = 2;
@@ -59,6 +59,20 @@ pub fn maximum_at(table: &[u8], field: usize) -> u8
     ensures { λ r. ⌜ r ≡ maximum (now (table .entry)) field ⌝ }
 {
     table[MAXIMA + field]
+}
+
+// The largest value of each field, in field order.
+pub fn maxima_at(table: &[u8]) -> [u16; FIELDS]
+    requires { ⌜ header ≤ length (now table) ⌝ }
+    ensures { λ r. ⌜ r ≡ maxima (now (table .entry)) ⌝ }
+{
+    let mut maxima = [0u16; FIELDS];
+    let mut field = 0;
+    while field < FIELDS {
+        maxima[field] = maximum_at(table, field) as u16;
+        field += 1;
+    }
+    maxima
 }
 
 // Node i's kind.

@@ -1,4 +1,4 @@
--- `answer::clear` meets its contract: after i turns the first i places are 0 and the rest is as it was.
+-- `answer::clear` meets its contract: the places before `place` are 0 and the rest is as it was.
 -- Assumes nothing.
 use mathlib.Core.Path.{_≡_, refl, ap, _∙_}
 use mathlib.Core.List.{List, _++_, append-nil}
@@ -11,11 +11,11 @@ use Rattle.answer.proofs.clear.Statement.{statement}
 use Rattle.answer.proofs.clear.Tie as tie
 
 abbrev Inv-loop : tie.InvT-loop
-Inv-loop list₀ n i₀ list i =
-    (n ≡ length list₀) × (i ≤ n) × (list ≡ replicate i 0 ++ drop i list₀) × (length list ≡ length list₀)
+Inv-loop list₀ n place₀ list place =
+    (n ≡ length list₀) × (place ≤ n) × (list ≡ replicate place 0 ++ drop place list₀) × (length list ≡ length list₀)
 
 abbrev μ-loop : tie.MeasureT-loop
-μ-loop list₀ n i₀ list i = n - i
+μ-loop list₀ n place₀ list place = n - place
 
 loop-holds : tie.Need-loop-holds Inv-loop μ-loop
 loop-holds c = (refl, omega arith, fill-none (c .args .list .now) 0, refl)
@@ -26,8 +26,8 @@ mul-list c = search needs
 slice-write-list : tie.Need-slice-write-list Inv-loop μ-loop
 slice-write-list c = search needs
 
-add-i : tie.Need-add-i Inv-loop μ-loop
-add-i c = search needs
+add-place : tie.Need-add-place Inv-loop μ-loop
+add-place c = search needs
 
 loop-less : tie.Need-loop-less Inv-loop μ-loop
 loop-less c = search needs
@@ -35,11 +35,11 @@ loop-less c = search needs
 loop-again : tie.Need-loop-again Inv-loop μ-loop
 loop-again c =
     let v = c .before .loop .inv in
-    let i = c .before .loop .i in
+    let place = c .before .loop .place in
     let d = c .before .before .args .list .now in (
       v .0,
       omega arith,
-      ap (λ (l : List ℕ). set l i 0) (v .2) ∙ fill-more i 0 d (omega (arith, v .0, c .loop-test .taken)),
+      ap (λ (l : List ℕ). set l place 0) (v .2) ∙ fill-more place 0 d (omega (arith, v .0, c .loop-test .taken)),
       simp length-set (v .3),
     )
 
@@ -49,9 +49,9 @@ same-length c = search needs
 returns : tie.Need-returns Inv-loop μ-loop
 returns c =
     let v = c .before .loop .inv in
-    let i = c .before .loop .i in
+    let place = c .before .loop .place in
     let d = c .before .before .args .list .now in
-    let e : i ≡ length d = omega (arith, v .0, v .1, c .loop-test .left) in
+    let e : place ≡ length d = omega (arith, v .0, v .1, c .loop-test .left) in
     v .2
     ∙ ap (λ (k : ℕ). replicate k 0 ++ drop k d) e
     ∙ ap (λ (l : List ℕ). replicate (length d) 0 ++ l) (drop-of-length-le d {i = length d} (omega arith))
@@ -66,7 +66,7 @@ clear-spec =
     loop-holds
     mul-list
     slice-write-list
-    add-i
+    add-place
     loop-less
     loop-again
     same-length

@@ -1,16 +1,27 @@
 -- `lookup::look_up` meets its contract, on each way out.
 -- Assumes nothing.
-use mathlib.Core.Path.{refl}
+use mathlib.Core.Path.{_≡_, refl, _∙_}
 use Prim.Native.Nat.{_+_, _-_}
 use native.Mathlib.Omega.{arith}
 use borrow.Author.Needs.{needs}
 use lib.ListN.{length}
+use Rattle.answer.specs.Fields.{fields}
+use Rattle.answer.specs.Requests.{fieldFault}
 use Rattle.answer.proofs.FirstField.{none-within}
 use Rattle.diagram.specs.Layout.{maximum, countAt}
+use Rattle.diagram.specs.Sound.{Sound}
 use Rattle.diagram.proofs.Deciding.{found-unsound, found-sound}
-use Rattle.diagram.proofs.Outcome.{unsound, over, short, good}
+use Rattle.diagram.proofs.Outcome.{maxima-fault, unsound, over, short, good}
 use Rattle.lookup.proofs.look_up.Statement.{statement}
 use Rattle.lookup.proofs.look_up.Tie as tie
+
+-- the diagram was found sound
+sound : (c : tie.Else1) → Sound fields (c .before .before .before .before .before .before .before .before .args .diagram .now)
+sound c = found-sound (c .before .before .before .before .before .before .before .before .args .diagram .now) (c .before .is-sound .result) (c .before .is-sound .ensures) (c .if1 .left)
+
+-- the faulty field by the diagram's maxima
+fault : (c : tie.After-field-fault) → c .field-fault .result ≡ fieldFault (maximum (c .before .before .before .before .before .before .before .before .before .before .before .before .args .diagram .now)) (c .before .before .before .before .before .before .before .before .before .before .before .before .args .request .values)
+fault c = c .field-fault .ensures ∙ maxima-fault (c .before .before .before .before .before .before .before .before .before .before .before .before .args .diagram .now) (c .before .before .before .before .before .before .before .before .before .before .before .before .args .request .values)
 
 clear-requires : tie.Need-clear-requires
 clear-requires c κs = search needs
@@ -30,10 +41,20 @@ returns c =
     let d = s .diagram .now in
     unsound d (s .request .values) (length (s .cards .now)) (c .refused .result) (c .before .before .before .before .before .clear .last .0) (found-unsound d (c .before .before .is-sound .result) (c .before .before .is-sound .ensures) (c .before .if1 .taken)) (c .refused .ensures) (c .before .before .before .before .before .clear .ensures)
 
+add-field-fault : tie.Need-add-field-fault
+add-field-fault c = search needs
+
+sub-field-fault : tie.Need-sub-field-fault
+sub-field-fault c = search needs
+
+part-field-fault-start : tie.Need-part-field-fault-start
+part-field-fault-start c = search needs
+
+part-field-fault-end : tie.Need-part-field-fault-end
+part-field-fault-end c = sound (c .before) .header-there
+
 field-fault-requires : tie.Need-field-fault-requires
-field-fault-requires c κs =
-    let d = c .before .before .before .before .before .before .before .before .before .before .args .diagram .now in
-    found-sound d (c .before .before .before .is-sound .result) (c .before .before .before .is-sound .ensures) (c .before .before .if1 .left) .header-there
+field-fault-requires c κs = search needs
 
 refused-requires-2 : tie.Need-refused-requires-2
 refused-requires-2 c κs = search needs
@@ -43,17 +64,15 @@ same-length-2 c = search needs
 
 returns-2 : tie.Need-returns-2
 returns-2 c =
-    let s = c .before .before .before .before .before .before .before .before .before .before .before .before .before .args in
+    let s = c .before .before .before .before .before .before .before .before .before .before .before .before .before .before .args in
     let d = s .diagram .now in
-    let sound = found-sound d (c .before .before .before .before .before .before .is-sound .result) (c .before .before .before .before .before .before .is-sound .ensures) (c .before .before .before .before .before .if1 .left) in
-    over d (s .request .values) (length (s .cards .now)) sound (c .refused2 .result) (c .before .before .before .before .before .before .before .before .before .clear .last .0) (c .before .before .field-fault .result) (c .before .before .field-fault .ensures) (c .before .if2 .taken) (c .refused2 .ensures) (c .before .before .before .before .before .before .before .before .before .clear .ensures)
+    over d (s .request .values) (length (s .cards .now)) (sound (c .before .before .before .before .before .before)) (c .refused2 .result) (c .before .before .before .before .before .before .before .before .before .before .clear .last .0) (c .before .before .field-fault .result) (fault (c .before .before)) (c .before .if2 .taken) (c .refused2 .ensures) (c .before .before .before .before .before .before .before .before .before .before .clear .ensures)
 
 descend-requires : tie.Need-descend-requires
 descend-requires c κs =
-    let s = c .before .before .before .before .before .before .before .before .before .before .before .before .args in
+    let s = c .before .before .before .before .before .before .before .before .before .before .before .before .before .args in
     let d = s .diagram .now in
-    let sound = found-sound d (c .before .before .before .before .before .is-sound .result) (c .before .before .before .before .before .is-sound .ensures) (c .before .before .before .before .if1 .left) in
-    (sound, none-within (maximum d) (s .request .values) (omega (arith, c .before .field-fault .ensures, c .if2 .left)))
+    (sound (c .before .before .before .before .before), none-within (maximum d) (s .request .values) (omega (arith, fault (c .before), c .if2 .left)))
 
 add-count : tie.Need-add-count
 add-count c = search needs
@@ -75,10 +94,9 @@ same-length-3 c = search needs
 
 returns-3 : tie.Need-returns-3
 returns-3 c =
-    let s = c .before .before .before .before .before .before .before .before .before .before .before .before .before .before .before .before .args in
+    let s = c .before .before .before .before .before .before .before .before .before .before .before .before .before .before .before .before .before .args in
     let d = s .diagram .now in
-    let sound = found-sound d (c .before .before .before .before .before .before .before .before .before .is-sound .result) (c .before .before .before .before .before .before .before .before .before .is-sound .ensures) (c .before .before .before .before .before .before .before .before .if1 .left) in
-    short d (s .request .values) (length (s .cards .now)) sound (c .before .before .before .descend .result) (c .before .before .before .descend .ensures) (c .before .before .before .before .before .field-fault .result) _ (c .before .before .before .before .before .field-fault .ensures) (c .before .before .before .before .if2 .left) refl (c .refused3 .result) (c .before .before .before .before .before .before .before .before .before .before .before .before .clear .last .0) (omega (arith, c .before .if3 .taken, c .before .before .before .before .before .before .before .before .before .before .before .before .clear .kept .0)) (c .refused3 .ensures) (c .before .before .before .before .before .before .before .before .before .before .before .before .clear .ensures)
+    short d (s .request .values) (length (s .cards .now)) (sound (c .before .before .before .before .before .before .before .before .before)) (c .before .before .before .descend .result) (c .before .before .before .descend .ensures) (c .before .before .before .before .before .field-fault .result) _ (fault (c .before .before .before .before .before)) (c .before .before .before .before .if2 .left) refl (c .refused3 .result) (c .before .before .before .before .before .before .before .before .before .before .before .before .before .clear .last .0) (omega (arith, c .before .if3 .taken, c .before .before .before .before .before .before .before .before .before .before .before .before .before .clear .kept .0)) (c .refused3 .ensures) (c .before .before .before .before .before .before .before .before .before .before .before .before .before .clear .ensures)
 
 add-from : tie.Need-add-from
 add-from c = search needs
@@ -121,10 +139,9 @@ same-length-4 c = search needs
 
 returns-4 : tie.Need-returns-4
 returns-4 c =
-    let s = c .before .before .before .before .before .before .before .before .before .before .before .before .before .before .before .before .before .before .before .before .before .before .args in
+    let s = c .before .before .before .before .before .before .before .before .before .before .before .before .before .before .before .before .before .before .before .before .before .before .before .args in
     let d = s .diagram .now in
-    let sound = found-sound d (c .before .before .before .before .before .before .before .before .before .before .before .before .before .before .before .is-sound .result) (c .before .before .before .before .before .before .before .before .before .before .before .before .before .before .before .is-sound .ensures) (c .before .before .before .before .before .before .before .before .before .before .before .before .before .before .if1 .left) in
-    good d (s .request .values) (length (s .cards .now)) sound (c .before .before .before .before .before .before .before .before .before .descend .result) (c .before .before .before .before .before .before .before .before .before .descend .ensures) (c .before .before .before .before .before .before .before .before .before .before .before .field-fault .result) _ (c .before .before .before .before .before .before .before .before .before .before .before .field-fault .ensures) (c .before .before .before .before .before .before .before .before .before .before .if2 .left) refl (c .ruled .result) (c .before .before .before .before .store .last .1 .0) (c .before .before .before .before .before .before .before .before .before .before .before .before .before .before .before .before .before .before .clear .last .0) _ (c .before .before .before .before .before .before .before .before .before .descend .result + 3 + countAt d (c .before .before .before .before .before .before .before .before .before .descend .result) - (c .before .before .before .before .before .before .before .before .before .descend .result + 3)) (omega (arith, c .before .before .before .before .before .before .before .if3 .left, c .before .before .before .before .before .before .before .before .before .before .before .before .before .before .before .before .before .before .clear .kept .0)) refl (c .ruled .ensures) (c .before .before .before .before .before .before .before .before .before .before .before .before .before .before .before .before .before .before .clear .ensures) (omega arith) (c .before .before .before .before .store .ensures)
+    good d (s .request .values) (length (s .cards .now)) (sound (c .before .before .before .before .before .before .before .before .before .before .before .before .before .before .before)) (c .before .before .before .before .before .before .before .before .before .descend .result) (c .before .before .before .before .before .before .before .before .before .descend .ensures) (c .before .before .before .before .before .before .before .before .before .before .before .field-fault .result) _ (fault (c .before .before .before .before .before .before .before .before .before .before .before)) (c .before .before .before .before .before .before .before .before .before .before .if2 .left) refl (c .ruled .result) (c .before .before .before .before .store .last .1 .0) (c .before .before .before .before .before .before .before .before .before .before .before .before .before .before .before .before .before .before .before .clear .last .0) _ (c .before .before .before .before .before .before .before .before .before .descend .result + 3 + countAt d (c .before .before .before .before .before .before .before .before .before .descend .result) - (c .before .before .before .before .before .before .before .before .before .descend .result + 3)) (omega (arith, c .before .before .before .before .before .before .before .if3 .left, c .before .before .before .before .before .before .before .before .before .before .before .before .before .before .before .before .before .before .before .clear .kept .0)) refl (c .ruled .ensures) (c .before .before .before .before .before .before .before .before .before .before .before .before .before .before .before .before .before .before .before .clear .ensures) (omega arith) (c .before .before .before .before .store .ensures)
 
 pub look-up-spec : {M : Type 1} → statement M
 look-up-spec =
@@ -135,6 +152,10 @@ look-up-spec =
     refused-requires
     same-length
     returns
+    add-field-fault
+    sub-field-fault
+    part-field-fault-start
+    part-field-fault-end
     field-fault-requires
     refused-requires-2
     same-length-2

@@ -8,13 +8,13 @@ use lib.ListN.{length, set, length-set}
 use Rattle.answer.specs.Fields.{fields}
 use Rattle.table.specs.Layout.{header}
 use Rattle.diagram.specs.Layout as diagram-layout
-use Rattle.building.proofs.Written.{Written, written-more, written-all}
+use Rattle.table.proofs.Maxima.{Written, written-more, written-all}
 use Rattle.building.proofs.header.write_header.Statement.{statement}
 use Rattle.building.proofs.header.write_header.Tie as tie
 
 abbrev Inv-loop : tie.InvT-loop
 Inv-loop diagram₀ used root table field₀ diagram field =
-    (header ≤ length table) × (diagram-layout.header fields ≤ length diagram) × (length diagram ≡ length diagram₀) × (field ≤ fields) × Written table diagram₀ field diagram
+    (header ≤ length table) × (diagram-layout.header fields ≤ length diagram) × (length diagram ≡ length diagram₀) × (field ≤ fields) × Written table diagram₀ 2 field diagram
 
 abbrev μ-loop : tie.MeasureT-loop
 μ-loop diagram₀ used root table field₀ diagram field = fields - field
@@ -58,7 +58,7 @@ loop-again c =
       simp length-set (omega arith),
       length-set (l .diagram) (2 + l .field) (c .maximum-at .result) ∙ l .inv .2,
       omega arith,
-      written-more (s .table .now) first (l .inv .0) (l .field) (l .diagram) (l .inv .4) (c .maximum-at .result) (c .before .loop-test .taken) (c .maximum-at .ensures),
+      written-more (s .table .now) first (l .inv .0) 2 (l .field) (l .diagram) (l .inv .4) (c .maximum-at .result) (2 + l .field) (c .before .loop-test .taken) (c .maximum-at .ensures) refl,
     )
 
 same-length : tie.Need-same-length Inv-loop μ-loop
@@ -68,7 +68,7 @@ returns : tie.Need-returns Inv-loop μ-loop
 returns c =
     let l = c .before .loop in
     let s = c .before .before .before .before .args in
-    written-all (s .table .now) (set (set (s .diagram .now) 0 (s .used)) 1 (s .root)) (l .inv .0) (l .field) (l .diagram) (l .inv .4) (omega arith)
+    written-all (s .table .now) (set (set (s .diagram .now) 0 (s .used)) 1 (s .root)) (l .inv .0) 2 (l .field) (l .diagram) (l .inv .4) (omega arith)
 
 pub write-header-spec : {M : Type 1} → statement M
 write-header-spec =
