@@ -1,7 +1,15 @@
 /*
  * Kolfsein, a verified policy engine: reading a table of rules, ruling on a request by its groups, building its
  * decision diagram, and ruling by a diagram.
- * For C99 and C++. Link libkolfsein.a, which itself needs only C's memcpy and memset.
+ * For C99 and C++. Link libkolfsein.a, which itself needs only C's memcpy and memset. The repository's docs/FORMAT.md
+ * describes the formats.
+ *
+ * Which call when:
+ * - kolfsein_rule where the table is at hand. It reads the table itself, and needs no kolfsein_read before it.
+ * - kolfsein_read to see whether a table is accepted, and which node is at fault where it is not.
+ * - kolfsein_build to see whether two tables rule alike, or to hand on what a table rules in its place.
+ * - kolfsein_look_up where a diagram is at hand and no table. Each call checks the whole diagram, so it takes longer
+ *   than kolfsein_rule unless the diagram is small for its table; docs/PERFORMANCE.md has the figures.
  *
  * Every call takes any bytes, any numbers and any values and ends. It allocates nothing, keeps nothing between calls,
  * and reads and writes only what it is lent. The caller sees to this:

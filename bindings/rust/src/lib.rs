@@ -1,8 +1,16 @@
 //! Kolfsein, a verified policy engine for board games: safe calls of its static library.
 //!
-//! A table of rules in nested groups is read, ruled by, or built into a decision diagram, which is ruled by faster.
+//! A table of rules in nested groups is read, ruled by, or built into a decision diagram, which rules as it does.
 //! Each call takes any bytes, any numbers and any values and ends. It allocates nothing and keeps nothing between
-//! calls, so any thread may call; one takes up to some 67 KB of stack. The repository's README describes the formats.
+//! calls, so any thread may call; one takes up to some 67 KB of stack. The repository's docs/FORMAT.md describes the
+//! formats.
+//!
+//! Which call when:
+//! - [`rule`] where the table is at hand. It reads the table itself, and needs no [`read`] before it.
+//! - [`read`] to see whether a table is accepted, and which node is at fault where it is not.
+//! - [`build`] to see whether two tables rule alike, or to hand on what a table rules in its place.
+//! - [`look_up`] where a diagram is at hand and no table. Each call checks the whole diagram, so it takes longer than
+//!   [`rule`] unless the diagram is small for its table; docs/PERFORMANCE.md has the figures.
 //!
 //! ```
 //! use kolfsein::{Decision, Reason, Request, MOST_CARDS, MOST_PLACES};
@@ -167,8 +175,9 @@ pub fn build(table: &[u8], diagram: &mut [u16]) -> Result<usize, Refusal> {
 /// Rules on a request by a diagram: the decision, and how many cards, both of the terminal that the request reaches.
 /// The list then holds the terminal's cards, and 0 in every place after them.
 ///
-/// A diagram may come from anyone: each call sees whether it is sound, in one pass over the places that it uses. What
-/// stands after those makes no difference.
+/// A diagram may come from anyone: each call sees whether it is sound, in one pass over the places that it uses, so it
+/// takes longer than [`rule`] unless the diagram is small for its table. What stands after those places makes no
+/// difference.
 ///
 /// ```
 /// use kolfsein::{Decision, Reason, Request};
