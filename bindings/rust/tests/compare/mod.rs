@@ -1,17 +1,37 @@
 //! Calls the library and compares what it hands back and writes with what is due, number by number, and counts.
 
 use std::fmt::Debug;
+use std::iter;
+use std::sync::Mutex;
 
 use kolfsein::{Decision, Reason, Refusal, Request, Ruling};
 
-use crate::evaluator::{Due, Refused, Ruled, Table, Values};
+use crate::evaluator::{Due, Refused, Ruled, Values};
 
 /// What stands in lent places before a call, and around them: no 0, and seldom a card.
 const MARK: u16 = 0xA5A5;
 const AROUND: usize = 4;
 
+/// How many tests compare, and how many comparisons all of them make at least.
+const TESTS: usize = 11;
+const COMPARISONS: u64 = 450_000_000;
+
+/// What the tests that ended did.
+static ENDED: Mutex<Ended> = Mutex::new(Ended {
+    tests: 0,
+    calls: 0,
+    comparisons: 0,
+});
+
+struct Ended {
+    tests: usize,
+    calls: u64,
+    comparisons: u64,
+}
+
 pub struct Compare {
-    case: String,
+    test: &'static str,
+    case: (&'static str, usize),
     comparisons: u64,
     /// How often each number, 0 or a refusal's, and each decision was due.
     numbers: [u64; 13],
@@ -19,9 +39,10 @@ pub struct Compare {
 }
 
 impl Compare {
-    pub fn new() -> Compare {
+    pub fn new(test: &'static str) -> Compare {
         Compare {
-            case: String::new(),
+            test,
+            case: ("case", 0),
             comparisons: 0,
             numbers: [0; 13],
             decisions: [0; 4],
@@ -29,72 +50,105 @@ impl Compare {
     }
 
     /// Names what is compared next, for a difference that is found.
-    pub fn case(&mut self, what: &str, number: usize) {
-        self.case = format!("{what} {number}");
+    pub fn case(&mut self, what: &'static str, number: usize) {
+        self.case = (what, number);
     }
 
-    pub fn reads(&mut self, bytes: &[u8], table: &Result<Table, Refused>) {
+    pub fn reads(&mut self, bytes: &[u8], due: &Due) {
         let answer = kolfsein::read(bytes);
-        self.counted(answer, &Due::read(table));
+        self.counted(answer, due);
     }
 
-    /// Rules with a list of so many places.
-    pub fn rules(&mut self, bytes: &[u8], values: Values, due: &Result<Ruled, Refused>, n: usize) {
-        let due = Due::listed(due, n);
-        let (answer, list) = self.lend(n, |list| kolfsein::rule(bytes, asked(values), list));
-        self.ruled(answer, &due);
-        self.lent(&list, &due);
-    }
-
-    /// Builds in a room of so many places, and hands back what it then holds.
-    pub fn builds(
+    /// Rules with each of some lists.
+    pub fn rules_with(
         &mut self,
         bytes: &[u8],
-        due: &Result<Vec<usize>, Refused>,
-        room: usize,
-    ) -> Vec<u16> {
-        let due = Due::built(due, room);
-        let (answer, diagram) = self.lend(room, |diagram| kolfsein::build(bytes, diagram));
-        self.counted(answer, &due);
-        self.lent(&diagram, &due);
-        diagram
+        values: Values,
+        ruled: &Result<Ruled, Refused>,
+        lists: impl IntoIterator<Item = usize>,
+    ) {
+        for places in lists {
+            self.rules(bytes, values, places, &Due::listed(ruled, places));
+        }
     }
 
-    /// Looks up with a list of so many places.
-    pub fn looks_up(
+    /// Builds in each of some rooms.
+    pub fn builds_in(
+        &mut self,
+        bytes: &[u8],
+        walked: &Result<Vec<usize>, Refused>,
+        rooms: impl IntoIterator<Item = usize>,
+    ) {
+        for places in rooms {
+            self.builds(bytes, places, &Due::built(walked, places));
+        }
+    }
+
+    /// Looks up with each of some lists.
+    pub fn looks_up_with(
         &mut self,
         diagram: &[u16],
         values: Values,
-        due: &Result<Ruled, Refused>,
-        n: usize,
+        ruled: &Result<Ruled, Refused>,
+        lists: impl IntoIterator<Item = usize>,
     ) {
-        let due = Due::listed(due, n);
-        let (answer, list) = self.lend(n, |list| kolfsein::look_up(diagram, asked(values), list));
-        self.ruled(answer, &due);
-        self.lent(&list, &due);
+        for places in lists {
+            self.looks_up(diagram, values, places, &Due::listed(ruled, places));
+        }
+    }
+
+    /// Rules with a list of so many places.
+    pub fn rules(&mut self, bytes: &[u8], values: Values, places: usize, due: &Due) {
+        let call = |list: &mut [u16]| kolfsein::rule(bytes, asked(values), list);
+        let (answer, list) = self.lend(places, call);
+        self.ruled(answer, due);
+        self.lent(&list, due);
+    }
+
+    /// Builds in a room of so many places, and hands back what it then holds.
+    pub fn builds(&mut self, bytes: &[u8], places: usize, due: &Due) -> Vec<u16> {
+        let (answer, room) = self.lend(places, |room| kolfsein::build(bytes, room));
+        self.counted(answer, due);
+        self.lent(&room, due);
+        room
+    }
+
+    /// Looks up with a list of so many places.
+    pub fn looks_up(&mut self, diagram: &[u16], values: Values, places: usize, due: &Due) {
+        let call = |list: &mut [u16]| kolfsein::look_up(diagram, asked(values), list);
+        let (answer, list) = self.lend(places, call);
+        self.ruled(answer, due);
+        self.lent(&list, due);
+    }
+
+    /// One comparison.
+    pub fn same<T: PartialEq + Debug>(&mut self, what: &str, is: T, due: T) {
+        self.comparisons += 1;
+        if is != due {
+            let (case, number) = self.case;
+            let test = self.test;
+            panic!("{test}, {case} {number}: {what} is {is:?}, due is {due:?}");
+        }
     }
 
     /// Sees that each decision was due so often.
     pub fn every_decision(&self, often: u64) {
         let enough = self.decisions.iter().all(|&times| times >= often);
-        assert!(enough, "decisions: {:?}", self.decisions);
+        assert!(enough, "{}: decisions {:?}", self.test, self.decisions);
     }
 
     /// Sees that there were so many comparisons, and that each of these numbers, 0 or a refusal's, was due so often.
-    pub fn end(
-        &self,
-        name: &str,
-        comparisons: u64,
-        numbers: impl IntoIterator<Item = usize>,
-        often: u64,
-    ) {
+    pub fn end(self, comparisons: u64, numbers: impl IntoIterator<Item = usize>, often: u64) {
+        let test = self.test;
+        let made = self.comparisons;
         let calls: u64 = self.numbers.iter().sum();
-        println!("{name}: {calls} calls, {} comparisons", self.comparisons);
-        assert!(self.comparisons >= comparisons, "too few comparisons");
+        println!("{test}: {calls} calls, {made} comparisons");
+        assert!(made >= comparisons, "{test}: too few comparisons");
         let enough = numbers
             .into_iter()
             .all(|number| self.numbers[number] >= often);
-        assert!(enough, "numbers: {:?}", self.numbers);
+        assert!(enough, "{test}: numbers {:?}", self.numbers);
+        total(calls, made);
     }
 
     fn counted(&mut self, answer: Result<usize, Refusal>, due: &Due) {
@@ -119,7 +173,8 @@ impl Compare {
 
     /// The numbers due, and zeros after them.
     fn lent(&mut self, lent: &[u16], due: &Due) {
-        let zeros = std::iter::repeat(&0);
+        assert!(due.numbers.len() <= lent.len(), "more is due than was lent");
+        let zeros = iter::repeat(&0);
         for (number, due) in lent.iter().zip(due.numbers.iter().chain(zeros)) {
             self.same("a lent number", number, due);
         }
@@ -136,10 +191,24 @@ impl Compare {
         }
         (answer, lent)
     }
+}
 
-    fn same<T: PartialEq + Debug>(&mut self, what: &str, is: T, due: T) {
-        self.comparisons += 1;
-        assert!(is == due, "{}: {what} is {is:?}, due is {due:?}", self.case);
+/// Adds to what the tests did; the last of them prints the total.
+fn total(calls: u64, comparisons: u64) {
+    let mut ended = ENDED.lock().expect("nothing fails while it is locked");
+    ended.tests += 1;
+    ended.calls += calls;
+    ended.comparisons += comparisons;
+    let Ended {
+        tests,
+        calls,
+        comparisons,
+    } = *ended;
+    drop(ended);
+    assert!(tests <= TESTS, "there are more than {TESTS} tests");
+    if tests == TESTS {
+        println!("all {TESTS} tests: {calls} calls, {comparisons} comparisons");
+        assert!(comparisons >= COMPARISONS, "too few comparisons in all");
     }
 }
 

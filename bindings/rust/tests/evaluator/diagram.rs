@@ -2,7 +2,7 @@
 
 use std::collections::HashMap;
 
-use super::{within, Refused, Ruled, Values};
+use super::{within, Refused, Ruled, Values, FIELDS, MOST_PLACES};
 
 /// A label or a node, by the requirements' words.
 enum Entry {
@@ -37,17 +37,17 @@ pub struct Diagram {
 impl Diagram {
     /// None where it is not sound.
     fn sound(numbers: &[u16]) -> Option<Diagram> {
-        let &[used, root, subject, resource, action] = numbers.first_chunk()?;
+        let (&[used, root], after) = numbers.split_first_chunk()?;
         let used = usize::from(used);
         let mut diagram = Diagram {
-            maxima: [subject, resource, action],
+            maxima: *after.first_chunk()?,
             root: root.into(),
             entries: HashMap::new(),
         };
-        if used > numbers.len() || used > 32_768 || diagram.maxima.iter().any(|&m| m > 255) {
+        if used > numbers.len() || used > MOST_PLACES || diagram.maxima.iter().any(|&m| m > 255) {
             return None;
         }
-        let mut place = 5;
+        let mut place = 2 + FIELDS;
         while place < used {
             let entry = diagram.entry(&numbers[place..used])?;
             let size = entry.size();
@@ -72,8 +72,8 @@ impl Diagram {
         let count = usize::from(*numbers.get(1)?);
         let edges = numbers.get(2..2 + 2 * count)?.chunks(2);
         let edges: Vec<(u16, usize)> = edges.map(|edge| (edge[0], edge[1].into())).collect();
-        let below = if level == 3 { 0 } else { level + 1 };
-        let sound = level <= 3
+        let below = if level == FIELDS { 0 } else { level + 1 };
+        let sound = level <= FIELDS
             && edges.last().is_some_and(|e| e.0 == self.maxima[level - 1])
             && edges.windows(2).all(|pair| pair[0].0 < pair[1].0)
             && edges.iter().all(|&(_, child)| self.stands(child, below));

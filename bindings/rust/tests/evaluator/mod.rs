@@ -6,24 +6,30 @@ mod ruling;
 mod walk;
 
 pub use diagram::Diagram;
-pub use reader::Table;
+pub use reader::{Table, HEADER, RECORD};
 
-/// A value for each field: subject, resource, action.
-pub type Values = [u16; 3];
+/// How many fields a request has: subject, resource, action.
+pub const FIELDS: usize = 3;
+
+/// A value for each field.
+pub type Values = [u16; FIELDS];
+
+/// The most places that a diagram uses.
+pub const MOST_PLACES: usize = 32_768;
 
 /// A refusal's number and place.
 #[derive(Clone, Copy, Debug)]
 pub struct Refused(pub u8, pub usize);
 
 /// A decision by its number, and the cards.
-#[derive(Clone, Debug)]
+#[derive(Clone, Debug, PartialEq)]
 pub struct Ruled {
     pub decision: u8,
     pub cards: Vec<u16>,
 }
 
-/// What a call should hand back, and what what it was lent should start with; zeros follow.
-#[derive(Clone, Debug, Default)]
+/// What a call should hand back, and the numbers that should stand first in what it was lent; zeros follow.
+#[derive(Clone, Debug, Default, PartialEq)]
 pub struct Due {
     pub number: u8,
     pub place: usize,
@@ -69,7 +75,7 @@ impl Due {
     /// A build in a room of so many places: 11 where the walk's diagram needs over 32,768 places or more than lent.
     pub fn built(walked: &Result<Vec<usize>, Refused>, room: usize) -> Due {
         match walked {
-            Ok(walked) if walked.len() > 32_768 || walked.len() > room => {
+            Ok(walked) if walked.len() > MOST_PLACES || walked.len() > room => {
                 Due::refused(Refused(11, 0))
             }
             Ok(walked) => Due {
@@ -100,9 +106,22 @@ pub fn look_up(diagram: &Result<Diagram, Refused>, values: Values) -> Result<Rul
         .look_up(values)
 }
 
+/// Every request within some maxima.
+pub fn every_request(maxima: Values) -> impl Iterator<Item = Values> {
+    let values = maxima.map(|most| usize::from(most) + 1);
+    (0..values.iter().product()).map(move |turn: usize| {
+        let mut left = turn;
+        values.map(|count| {
+            let value = left % count;
+            left /= count;
+            value as u16
+        })
+    })
+}
+
 /// Refusal 9: the first field whose value is over its maximum.
 fn within(values: Values, maxima: Values) -> Result<(), Refused> {
-    match (0..3).find(|&field| values[field] > maxima[field]) {
+    match (0..FIELDS).find(|&field| values[field] > maxima[field]) {
         Some(field) => Err(Refused(9, field)),
         None => Ok(()),
     }

@@ -1,13 +1,21 @@
 //! Reading a table: refusals 1 to 8 in their order.
 
-use super::{Refused, Values};
+use std::array;
+
+use super::{Refused, Values, FIELDS};
+
+/// Bytes of the header: two for the length, the version, the maxima, two for the number of nodes.
+pub const HEADER: usize = 5 + FIELDS;
+
+/// Bytes of a record: the kind, two for the span, two for the card, two for each field's range.
+pub const RECORD: usize = 5 + 2 * FIELDS;
 
 #[derive(Debug)]
 pub struct Node {
     pub kind: u8,
     pub span: usize,
     pub card: u16,
-    pub ranges: [(u8, u8); 3],
+    pub ranges: [(u8, u8); FIELDS],
     pub parent: Option<usize>,
     pub children: Vec<usize>,
 }
@@ -31,21 +39,21 @@ fn number(bytes: &[u8]) -> usize {
 
 impl Table {
     pub fn read(bytes: &[u8]) -> Result<Table, Refused> {
-        if bytes.len() < 8 || bytes.len() != number(bytes) + 2 {
+        if bytes.len() < HEADER || bytes.len() != number(bytes) + 2 {
             return Err(Refused(1, 0));
         }
         if bytes[2] != 1 {
             return Err(Refused(2, 0));
         }
-        let count = number(&bytes[6..]);
-        if count == 0 || count > 128 || bytes.len() != 8 + 11 * count {
+        let count = number(&bytes[HEADER - 2..]);
+        if count == 0 || count > 128 || bytes.len() != HEADER + RECORD * count {
             return Err(Refused(3, 0));
         }
         let mut table = Table {
-            maxima: [3, 4, 5].map(|place| u16::from(bytes[place])),
+            maxima: array::from_fn(|field| u16::from(bytes[3 + field])),
             nodes: Vec::new(),
         };
-        for (place, record) in bytes[8..].chunks(11).enumerate() {
+        for (place, record) in bytes[HEADER..].chunks(RECORD).enumerate() {
             let node = table.node(place, record);
             if let Some(refusal) = table.refusal(place, &node, count) {
                 return Err(Refused(refusal, place));
@@ -63,7 +71,7 @@ impl Table {
             kind: record[0],
             span: number(&record[1..]),
             card: number(&record[3..]) as u16,
-            ranges: [5, 7, 9].map(|low| (record[low], record[low + 1])),
+            ranges: array::from_fn(|field| (record[5 + 2 * field], record[6 + 2 * field])),
             parent: (0..place).rev().find(|&above| self.end(above) > place),
             children: Vec::new(),
         }
@@ -80,7 +88,7 @@ impl Table {
             None => node.span != count,
             Some(parent) => place + node.span > self.end(parent),
         };
-        let range_wrong = (0..3).any(|field| {
+        let range_wrong = (0..FIELDS).any(|field| {
             let (low, high) = node.ranges[field];
             low > high || u16::from(high) > self.maxima[field]
         });
@@ -100,7 +108,7 @@ impl Table {
     }
 
     /// "The root is on level 1, a child one level below its parent".
-    fn level(&self, node: &Node) -> usize {
+    pub fn level(&self, node: &Node) -> usize {
         1 + node
             .parent
             .map_or(0, |parent| self.level(&self.nodes[parent]))

@@ -1,6 +1,7 @@
 //! Ruling by a table's groups.
 
-use super::{reader::Node, within, Refused, Ruled, Table, Values};
+use super::{every_request, reader::Node, within};
+use super::{Refused, Ruled, Table, Values, FIELDS};
 
 const NONE: u8 = 0;
 const MAY: u8 = 1;
@@ -16,6 +17,14 @@ impl Table {
             decision: self.decision(&self.nodes[0], values),
             cards: cards.map(|node| node.card).collect(),
         })
+    }
+
+    /// "Two tables with the same maxima rule alike when the groups give, for every question within them, the same
+    /// decision and the same card numbers in the same order."
+    pub fn rules_alike(&self, other: &Table) -> bool {
+        let given = |table: &Table, values| table.rule(values).expect("values within the maxima");
+        self.maxima == other.maxima
+            && every_request(self.maxima).all(|values| given(self, values) == given(other, values))
     }
 
     /// "A rule matches when its own target and every target above it hold."
@@ -48,7 +57,7 @@ impl Table {
 
 /// "A node's target holds when all three values lie in its ranges."
 fn holds(node: &Node, values: Values) -> bool {
-    (0..3).all(|field| {
+    (0..FIELDS).all(|field| {
         let (low, high) = node.ranges[field];
         u16::from(low) <= values[field] && values[field] <= u16::from(high)
     })

@@ -2,7 +2,7 @@
 
 use std::collections::HashMap;
 
-use super::Table;
+use super::{Table, Values};
 
 struct Walk<'a> {
     table: &'a Table,
@@ -13,12 +13,12 @@ struct Walk<'a> {
 
 impl Table {
     pub fn walk(&self) -> Vec<usize> {
-        let maxima = self.maxima.map(usize::from);
         let mut walk = Walk {
             table: self,
-            numbers: vec![0, 0, maxima[0], maxima[1], maxima[2]],
+            numbers: vec![0, 0],
             places: HashMap::new(),
         };
+        walk.numbers.extend(self.maxima.map(usize::from));
         walk.numbers[1] = walk.field(&[]);
         walk.numbers[0] = walk.numbers.len();
         walk.numbers
@@ -47,7 +47,7 @@ impl Walk<'_> {
         self.enter(entry)
     }
 
-    fn terminal(&mut self, values: [u16; 3]) -> usize {
+    fn terminal(&mut self, values: Values) -> usize {
         let ruled = self.table.rule(values).expect("values within the maxima");
         let mut entry = vec![0, ruled.decision.into(), ruled.cards.len()];
         entry.extend(ruled.cards.into_iter().map(usize::from));

@@ -1,24 +1,25 @@
 //! Damage done to tables and diagrams; it may leave one as it was, or accepted, or sound.
 
-use super::Random;
+use super::{outline::state_length, Random};
+use crate::evaluator::{FIELDS, HEADER, RECORD};
 
 pub fn damage_table(random: &mut Random, bytes: &mut Vec<u8>) {
-    if bytes.len() < 19 {
+    let length = bytes.len();
+    if length < HEADER + RECORD {
         bytes.push(random.byte());
         return;
     }
-    let length = bytes.len();
-    let at = 8 + 11 * random.below((length - 8) / 11);
-    let field = random.below(3);
+    let at = HEADER + RECORD * random.below((length - HEADER) / RECORD);
+    let field = random.below(FIELDS);
     let (most, low, high) = (3 + field, at + 5 + 2 * field, at + 6 + 2 * field);
     match random.below(16) {
         0 => bytes.truncate(random.below(length)),
         1 => bytes.resize(length + 1 + random.below(12), 0),
-        2 => bytes[random.below(8)] = random.byte(),
+        2 => bytes[random.below(HEADER)] = random.byte(),
         3 => bytes[2] = random.of(&[0, 2, 255]),
-        4 => bytes[7] = bytes[7].wrapping_add(random.of(&[1, 255])),
-        5 => bytes.extend_from_within(length - 11..),
-        6 => bytes.truncate(length - 11),
+        4 => bytes[HEADER - 1] = bytes[HEADER - 1].wrapping_add(random.of(&[1, 255])),
+        5 => bytes.extend_from_within(length - RECORD..),
+        6 => bytes.truncate(length - RECORD),
         7 => bytes[at] = random.of(&[0, 1, 2, 3, 4, 5, 6, 7, 255]),
         8 => bytes[at + 2] = bytes[at + 2].wrapping_add(random.of(&[1, 2, 255])),
         9 => bytes[at + 1 + random.below(2)] = random.of(&[0, 1, 2, 128]),
@@ -29,28 +30,30 @@ pub fn damage_table(random: &mut Random, bytes: &mut Vec<u8>) {
         14 => bytes[most] = bytes[most].wrapping_sub(1),
         _ => bytes[random.below(length)] = random.byte(),
     }
-    if bytes.len() >= 8 && random.one_in(2) {
-        restate_length(random, bytes);
+    if random.one_in(2) {
+        state_length(bytes);
+    }
+    if random.one_in(4) {
+        state_nodes(bytes);
     }
 }
 
-/// States the length as it is, and half of the time the number of nodes.
-fn restate_length(random: &mut Random, bytes: &mut [u8]) {
-    let length = (bytes.len() - 2) as u16;
-    bytes[..2].copy_from_slice(&length.to_be_bytes());
-    if random.one_in(2) {
-        bytes[6..8].copy_from_slice(&((length - 6) / 11).to_be_bytes());
+/// States the number of nodes for which there is room, where there is a header.
+fn state_nodes(bytes: &mut [u8]) {
+    if let Some(records) = bytes.len().checked_sub(HEADER) {
+        let nodes = (records / RECORD) as u16;
+        bytes[HEADER - 2..HEADER].copy_from_slice(&nodes.to_be_bytes());
     }
 }
 
 pub fn damage_diagram(random: &mut Random, numbers: &mut Vec<u16>) {
     let length = numbers.len();
-    if length < 5 {
+    if length < 2 + FIELDS {
         numbers.push(random.of(&[0, 1, 5]));
         return;
     }
-    let used = usize::from(numbers[0]).clamp(5, length);
-    let part = random.of(&[5, used, used, used]);
+    let used = usize::from(numbers[0]).clamp(2 + FIELDS, length);
+    let part = random.of(&[2 + FIELDS, used, used, used]);
     let place = random.below(part);
     match random.below(12) {
         0 => numbers.truncate(random.below(length)),

@@ -1,15 +1,22 @@
-//! Tables, diagrams and requests, the same in every run, and damage done to them.
+//! Tables, diagrams and requests, the same in every run, changes of them, and damage done to them.
 
+mod changes;
 mod damage;
 mod diagrams;
 mod outline;
 mod random;
 mod requests;
+mod shapes;
+mod sweeps;
 mod tables;
 
+pub use changes::{Moves, CHANGES};
 pub use damage::damage_diagram;
-pub use diagrams::{fill_diagram, sound_diagram};
+pub use diagrams::{fill_diagram, sound_diagram, state_used, widest_diagram};
+pub use outline::{state_length, Maxima, Outline};
 pub use random::Random;
-pub use requests::{every_request, some_requests};
-pub use tables::{accepted_table, any_maxima, changed_harbours, damaged_table, small_maxima};
-pub use tables::{staircase, HARBOUR, RULEBOOK};
+pub use requests::{lists, requests_of, some_requests};
+pub use shapes::{all_different, chain, decisions, empty_root, flat, nested, spread, staircase};
+pub use sweeps::{each_entry_more, each_length, each_place, each_span};
+pub use tables::{accepted_table, damaged_table, small_table, HARBOUR, RULEBOOK};
+pub use tables::{any_maxima, small_maxima};

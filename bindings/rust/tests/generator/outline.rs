@@ -1,82 +1,123 @@
 //! A table's nodes before they are bytes.
 
-use super::Random;
+use crate::evaluator::{Table, FIELDS};
 
+/// The largest value of each field.
+pub type Maxima = [u8; FIELDS];
+
+/// Low and high of each field.
+pub type Ranges = [(u8, u8); FIELDS];
+
+/// A node by its level: under it are the nodes on deeper levels that follow it directly.
+#[derive(Clone, Copy, PartialEq)]
+pub struct Node {
+    pub level: usize,
+    pub kind: u8,
+    pub card: u16,
+    pub ranges: Ranges,
+}
+
+impl Node {
+    pub fn is_group(&self) -> bool {
+        self.kind < 4
+    }
+}
+
+#[derive(Clone, PartialEq)]
 pub struct Outline {
-    pub maxima: [u8; 3],
-    records: Vec<[u8; 11]>,
-    /// How groups part the nodes under them, and how seldom a range is narrow.
-    parting: usize,
-    seldom: usize,
+    pub maxima: Maxima,
+    pub nodes: Vec<Node>,
 }
 
 impl Outline {
-    pub fn new(random: &mut Random, maxima: [u8; 3]) -> Outline {
+    /// No nodes yet.
+    pub fn new(maxima: Maxima) -> Outline {
         Outline {
             maxima,
-            records: Vec::new(),
-            parting: random.below(4),
-            seldom: random.of(&[1, 2, 4, 8]),
+            nodes: Vec::new(),
         }
     }
 
-    /// Adds a node and all under it: so many nodes, on at most so many levels, at least 2.
-    pub fn grow(&mut self, random: &mut Random, nodes: usize, levels: usize) {
-        let group = nodes > 1 || random.one_in(8);
-        let kind = if group {
-            random.of(&[0, 1, 2, 3])
-        } else {
-            random.of(&[4, 5])
+    /// The nodes of a table that is accepted.
+    pub fn of(bytes: &[u8]) -> Outline {
+        let table = Table::read(bytes).expect("a table that is accepted");
+        let mut outline = Outline::new(table.maxima.map(|most| most as u8));
+        for node in &table.nodes {
+            outline.add(table.level(node), node.kind, node.card, node.ranges);
+        }
+        outline
+    }
+
+    /// Ranges that hold every value.
+    pub fn all(&self) -> Ranges {
+        self.maxima.map(|most| (0, most))
+    }
+
+    pub fn add(&mut self, level: usize, kind: u8, card: u16, ranges: Ranges) {
+        self.nodes.push(Node {
+            level,
+            kind,
+            card,
+            ranges,
+        });
+    }
+
+    /// How many nodes a node and all under it are.
+    pub fn span(&self, node: usize) -> usize {
+        let level = self.nodes[node].level;
+        let after = self.nodes[node + 1..].iter();
+        1 + after.take_while(|under| under.level > level).count()
+    }
+
+    /// The parent of a node that is not the root.
+    pub fn parent(&self, node: usize) -> &Node {
+        let level = self.nodes[node].level;
+        let before = self.nodes[..node].iter();
+        let above = before.rev().find(|above| above.level < level);
+        above.expect("a node above all but the root")
+    }
+
+    /// A group more before a node, with ranges that hold every value.
+    pub fn insert_group(&mut self, place: usize, level: usize, kind: u8) {
+        let ranges = self.all();
+        let group = Node {
+            level,
+            kind,
+            card: 0,
+            ranges,
         };
-        let card = match random.below(4) {
-            _ if group => 0,
-            0 => 65_535 - random.below(3),
-            1 => 1 + random.below(65_535),
-            _ => 1 + random.below(6),
-        };
-        let ranges = self.maxima.map(|most| self.range(random, most));
-        self.add(kind, nodes, card, ranges);
-        let mut left = nodes - 1;
-        while left > 0 {
-            let part = match self.parting {
-                _ if levels <= 2 => 1,
-                0 => 1 + random.below(left.min(4)),
-                1 => 1 + random.below(left.div_ceil(2)),
-                2 => 1 + random.below(left),
-                _ => left,
-            };
-            self.grow(random, part, levels - 1);
-            left -= part;
-        }
+        self.nodes.insert(place, group);
     }
 
-    fn range(&self, random: &mut Random, most: u8) -> (u8, u8) {
-        if !random.one_in(self.seldom) {
-            return (0, most);
+    /// A node and all under it put in a group of their own.
+    pub fn wrap(&mut self, place: usize, kind: u8) {
+        let level = self.nodes[place].level;
+        let end = place + self.span(place);
+        for node in &mut self.nodes[place..end] {
+            node.level += 1;
         }
-        let mut end = || random.below(usize::from(most) + 1) as u8;
-        let (a, b) = (end(), end());
-        (a.min(b), a.max(b))
-    }
-
-    pub fn add(&mut self, kind: u8, span: usize, card: usize, ranges: [(u8, u8); 3]) {
-        let mut record = [kind, 0, 0, 0, 0, 0, 0, 0, 0, 0, 0];
-        record[1..3].copy_from_slice(&(span as u16).to_be_bytes());
-        record[3..5].copy_from_slice(&(card as u16).to_be_bytes());
-        for (field, (low, high)) in ranges.into_iter().enumerate() {
-            record[5 + 2 * field] = low;
-            record[6 + 2 * field] = high;
-        }
-        self.records.push(record);
+        self.insert_group(place, level, kind);
     }
 
     pub fn bytes(&self) -> Vec<u8> {
-        let nodes = self.records.len();
-        let mut bytes = ((6 + 11 * nodes) as u16).to_be_bytes().to_vec();
-        bytes.push(1);
+        let mut bytes = vec![0, 0, 1];
         bytes.extend(self.maxima);
-        bytes.extend((nodes as u16).to_be_bytes());
-        bytes.extend(self.records.iter().flatten());
+        bytes.extend((self.nodes.len() as u16).to_be_bytes());
+        for (place, node) in self.nodes.iter().enumerate() {
+            bytes.push(node.kind);
+            bytes.extend((self.span(place) as u16).to_be_bytes());
+            bytes.extend(node.card.to_be_bytes());
+            bytes.extend(node.ranges.iter().flat_map(|&(low, high)| [low, high]));
+        }
+        state_length(&mut bytes);
         bytes
+    }
+}
+
+/// States a table's length as it is, where it has room for that.
+pub fn state_length(bytes: &mut [u8]) {
+    let length = bytes.len().saturating_sub(2) as u16;
+    if let Some(word) = bytes.first_chunk_mut() {
+        *word = length.to_be_bytes();
     }
 }

@@ -1,83 +1,125 @@
 //! Tables that are accepted, and tables that most often are not.
 
-use super::{damage::damage_table, outline::Outline, Random};
+use super::{damage::damage_table, Maxima, Outline, Random};
+use crate::evaluator::FIELDS;
 
 pub const HARBOUR: &[u8] = include_bytes!("../../../../examples/harbour.table");
 pub const RULEBOOK: &[u8] = include_bytes!("../../../../examples/rulebook.table");
 
-/// The small example with each byte set to each value, and cut at each length.
-pub fn changed_harbours() -> Vec<Vec<u8>> {
-    let mut tables = Vec::new();
-    for place in 0..HARBOUR.len() {
-        tables.push(HARBOUR[..place].to_vec());
-        for byte in 0..=255 {
-            let mut changed = HARBOUR.to_vec();
-            changed[place] = byte;
-            tables.push(changed);
-        }
-    }
-    tables
-}
-
 /// Maxima of every sort.
-pub fn any_maxima(random: &mut Random) -> [u8; 3] {
+pub fn any_maxima(random: &mut Random) -> Maxima {
     match random.below(5) {
-        0 => [255; 3],
-        1 => [0; 3].map(|_: u8| random.byte()),
+        0 => [255; FIELDS],
+        1 => [0; FIELDS].map(|_: u8| random.byte()),
         2 => [12, 20, 10],
         _ => small_maxima(random),
     }
 }
 
 /// Maxima of which every request can be tried; now and then one is as large as it can be.
-pub fn small_maxima(random: &mut Random) -> [u8; 3] {
-    let mut maxima = [0; 3].map(|_: u8| random.below(5) as u8);
+pub fn small_maxima(random: &mut Random) -> Maxima {
+    let mut maxima = [0; FIELDS].map(|_: u8| random.below(5) as u8);
     if random.one_in(8) {
-        maxima[random.below(3)] = random.of(&[254, 255]);
+        maxima[random.below(FIELDS)] = random.of(&[254, 255]);
     }
     maxima
 }
 
-pub fn accepted_table(random: &mut Random, maxima: [u8; 3]) -> Vec<u8> {
+pub fn accepted_table(random: &mut Random, maxima: Maxima) -> Outline {
+    let nodes = any_count(random, 128);
     let levels = random.of(&[2, 5, 8, 8]);
-    grown(random, maxima, 0, levels)
+    grown(random, maxima, nodes, levels)
+}
+
+/// A table of few nodes, of which each one tells.
+pub fn small_table(random: &mut Random, maxima: Maxima) -> Outline {
+    let nodes = 1 + random.below(12);
+    grown(random, maxima, nodes, 4)
 }
 
 /// A table with up to three pieces of damage, or with too many nodes or levels.
-pub fn damaged_table(random: &mut Random, maxima: [u8; 3]) -> Vec<u8> {
-    let (more, levels) = random.of(&[(0, 8), (0, 8), (0, 8), (0, 12), (3, 9)]);
-    let mut bytes = grown(random, maxima, more, levels);
+pub fn damaged_table(random: &mut Random, maxima: Maxima) -> Vec<u8> {
+    let (most, levels) = random.of(&[(128, 8), (128, 8), (128, 8), (128, 12), (131, 9)]);
+    let nodes = any_count(random, most);
+    let mut bytes = grown(random, maxima, nodes, levels).bytes();
     for _ in 0..random.below(4) {
         damage_table(random, &mut bytes);
     }
     bytes
 }
 
-/// Nodes up to 128, or so many more, on at most so many levels.
-fn grown(random: &mut Random, maxima: [u8; 3], more: usize, levels: usize) -> Vec<u8> {
-    let nodes = match random.below(8) {
-        0 => 128 + more,
-        1 | 2 => 1 + random.below(128 + more),
-        _ => 1 + random.below(20 + more),
-    };
-    let mut outline = Outline::new(random, maxima);
-    outline.grow(random, nodes, levels);
-    outline.bytes()
+/// How many nodes: mostly few, now and then the most.
+fn any_count(random: &mut Random, most: usize) -> usize {
+    match random.below(8) {
+        0 => most,
+        1 | 2 => 1 + random.below(most),
+        _ => 1 + random.below(20),
+    }
 }
 
-/// One rule more matches from each subject to the next, and from each resource to the next, so that no two requests
-/// have the same cards; one always matches, and so many match for the last request alone, each with a place more.
-pub fn staircase(random: &mut Random, subjects: u8, resources: u8, last: u8) -> Vec<u8> {
-    let mut outline = Outline::new(random, [subjects - 1, resources - 1, 0]);
-    let [subject, resource, _] = outline.maxima;
-    let rules = usize::from(subject + resource + 1 + last);
-    outline.add(2, 1 + rules, 0, [(0, subject), (0, resource), (0, 0)]);
-    let from_subjects = (1..=subject).map(|low| (low, 0));
-    let from_resources = (0..=resource).map(|low| (0, low));
-    let for_the_last = (0..last).map(|_| (subject, resource));
-    let lows = from_subjects.chain(from_resources).chain(for_the_last);
-    for (card, (s, r)) in lows.enumerate() {
-        outline.add(4, 1, 1 + card, [(s, subject), (r, resource), (0, 0)]);
+/// So many nodes on at most so many levels.
+fn grown(random: &mut Random, maxima: Maxima, nodes: usize, levels: usize) -> Outline {
+    let mut growth = Growth {
+        outline: Outline::new(maxima),
+        levels,
+        parting: random.below(4),
+        seldom: random.of(&[1, 2, 4, 8]),
+        random,
+    };
+    growth.grow(nodes, 1);
+    growth.outline
+}
+
+struct Growth<'a> {
+    outline: Outline,
+    /// At least 2.
+    levels: usize,
+    /// How groups part the nodes under them, and how seldom a range is narrow.
+    parting: usize,
+    seldom: usize,
+    random: &'a mut Random,
+}
+
+impl Growth<'_> {
+    /// Adds a node on a level and all under it: so many nodes.
+    fn grow(&mut self, nodes: usize, level: usize) {
+        let group = nodes > 1 || self.random.one_in(8);
+        let (kind, card) = if group {
+            (self.random.of(&[0, 1, 1, 2, 3]), 0)
+        } else {
+            (self.random.of(&[4, 5]), self.card())
+        };
+        let ranges = self.outline.maxima.map(|most| self.range(most));
+        self.outline.add(level, kind, card, ranges);
+        let mut left = nodes - 1;
+        while left > 0 {
+            let part = match self.parting {
+                _ if level + 1 >= self.levels => 1,
+                0 => 1 + self.random.below(left.min(4)),
+                1 => 1 + self.random.below(left.div_ceil(2)),
+                2 => 1 + self.random.below(left),
+                _ => left,
+            };
+            self.grow(part, level + 1);
+            left -= part;
+        }
     }
-    outline.bytes()
+
+    fn card(&mut self) -> u16 {
+        let card = match self.random.below(4) {
+            0 => 65_535 - self.random.below(3),
+            1 => 1 + self.random.below(65_535),
+            _ => 1 + self.random.below(6),
+        };
+        card as u16
+    }
+
+    fn range(&mut self, most: u8) -> (u8, u8) {
+        if !self.random.one_in(self.seldom) {
+            return (0, most);
+        }
+        let mut end = || self.random.below(usize::from(most) + 1) as u8;
+        let (a, b) = (end(), end());
+        (a.min(b), a.max(b))
+    }
 }

@@ -1,0 +1,109 @@
+//! Tables of a certain shape.
+
+use super::Outline;
+use crate::evaluator::FIELDS;
+
+/// A group over rules that match every request, so many nodes in all.
+pub fn flat(nodes: u16) -> Outline {
+    let mut outline = Outline::new([255; FIELDS]);
+    outline.add(1, 3, 0, outline.all());
+    for node in 1..nodes {
+        outline.add(2, 4, 999 + node, outline.all());
+    }
+    outline
+}
+
+/// A group of a kind with nothing under it, with T's maxima.
+pub fn empty_root(kind: u8) -> Outline {
+    let mut outline = Outline::new([2, 1, 1]);
+    outline.add(1, kind, 0, outline.all());
+    outline
+}
+
+/// One path of groups down to a level.
+pub fn chain(levels: usize) -> Outline {
+    let mut outline = Outline::new([0; FIELDS]);
+    for level in 1..=levels {
+        outline.add(level, 0, 0, outline.all());
+    }
+    outline
+}
+
+/// Level and kind of each node of the nested table.
+const LEVELS: [usize; 24] = [
+    1, 2, 3, 3, 4, 5, 5, 6, 7, 8, 8, 8, 3, 2, 2, 3, 3, 4, 2, 2, 3, 4, 3, 3,
+];
+const KINDS: [u8; 24] = [
+    3, 0, 4, 1, 2, 5, 0, 3, 1, 4, 2, 5, 4, 2, 1, 4, 0, 5, 5, 3, 3, 4, 0, 4,
+];
+
+/// Down to level 8, with empty groups on levels 2, 3 and 8; no two nodes have the same ranges.
+pub fn nested() -> Outline {
+    let mut outline = Outline::new([9, 5, 255]);
+    for (node, (level, kind)) in (0..).zip(LEVELS.into_iter().zip(KINDS)) {
+        let card = if kind < 4 { 0 } else { node.into() };
+        let ranges = [(node % 10, 9), (2, 2 + node % 4), (node, 255)];
+        outline.add(level, kind, card, ranges);
+    }
+    outline
+}
+
+/// A group of a kind over only-one groups, which give subject 1 these decisions, and subject 0 none.
+pub fn decisions(kind: u8, given: &[u8]) -> Outline {
+    let mut outline = Outline::new([1, 0, 0]);
+    outline.add(1, kind, 0, outline.all());
+    for (card, decision) in (1..).step_by(2).zip(given) {
+        outline.add(2, 1, 0, outline.all());
+        // a rule to permit and one to deny, of which those match that make the decision
+        let [permit, deny] = [decision % 2, decision / 2];
+        outline.add(3, 4, card, [(permit, permit), (0, 0), (0, 0)]);
+        outline.add(3, 5, card + 1, [(deny, deny), (0, 0), (0, 0)]);
+    }
+    outline
+}
+
+/// 127 rules, whose ranges in one field begin and end each at another value.
+pub fn spread(field: usize) -> Outline {
+    let mut outline = Outline::new([0; FIELDS]);
+    outline.maxima[field] = 255;
+    outline.add(1, 3, 0, outline.all());
+    for rule in 0..127 {
+        let mut ranges = outline.all();
+        ranges[field] = (1 + rule, 128 + rule);
+        outline.add(2, 4 + rule % 2, 1000 + u16::from(rule), ranges);
+    }
+    outline
+}
+
+/// One rule more matches from each subject to the next, and from each resource to the next, so that no two requests
+/// have the same cards; one always matches, and so many match for the last request alone, each with a place more.
+pub fn staircase(subjects: u8, resources: u8, last: u8) -> Outline {
+    let [subject, resource] = [subjects - 1, resources - 1];
+    let mut outline = Outline::new([subject, resource, 0]);
+    outline.add(1, 2, 0, outline.all());
+    let from_subjects = (1..=subject).map(|low| (low, 0));
+    let from_resources = (0..=resource).map(|low| (0, low));
+    let for_the_last = (0..last).map(|_| (subject, resource));
+    let lows = from_subjects.chain(from_resources).chain(for_the_last);
+    for (card, (s, r)) in (1..).zip(lows) {
+        outline.add(2, 4, card, [(s, subject), (r, resource), (0, 0)]);
+    }
+    outline
+}
+
+/// Rules that each reach from some value of one field to its last, so that all 512 rulings differ, and one that matches
+/// 25 requests; so many more match for the last request alone, each with a place more.
+pub fn all_different(last: u16) -> Outline {
+    let mut outline = Outline::new([7; 3]);
+    outline.add(1, 0, 0, outline.all());
+    outline.add(2, 4, 1, [(0, 4), (0, 4), (0, 0)]);
+    for rule in 0..101 {
+        let mut ranges = outline.all();
+        ranges[rule % 3].0 = if rule < 96 { (rule / 3 % 8) as u8 } else { 1 };
+        outline.add(2, 4, 2 + rule as u16, ranges);
+    }
+    for rule in 0..last {
+        outline.add(2, 4, 103 + rule, [(7, 7); 3]);
+    }
+    outline
+}

@@ -1,0 +1,15 @@
+//! The library beside a separately written evaluator: every number of every answer, and of every list and diagram that
+//! is lent. `evaluator` says what tables and diagrams mean, `generator` makes them, `compare` calls and compares; the
+//! other modules say what is compared.
+
+mod compare;
+mod evaluator;
+mod generator;
+
+mod building;
+mod looking_up;
+mod pairs;
+mod reading;
+mod refusals;
+mod ruling;
+mod vectors;

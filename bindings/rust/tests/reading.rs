@@ -1,0 +1,60 @@
+//! Reading, and that a table's refusal comes before all others of a call.
+
+use crate::compare::Compare;
+use crate::evaluator::{Due, Table, FIELDS};
+use crate::generator::{accepted_table, any_maxima, chain, damaged_table, nested};
+use crate::generator::{each_length, each_place, each_span, state_length, Random, HARBOUR};
+
+/// Reads a table: whether it is accepted. Where it is not, a ruling and a build refuse it too, before a value over its
+/// maximum, a list that is too short and a room that is.
+fn reads(compare: &mut Compare, number: usize, bytes: &[u8]) -> bool {
+    compare.case("table", number);
+    let table = Table::read(bytes);
+    let due = Due::read(&table);
+    compare.reads(bytes, &due);
+    if table.is_err() {
+        compare.rules(bytes, [256; FIELDS], number % 4, &due);
+        compare.builds(bytes, number % 100, &due);
+    }
+    table.is_ok()
+}
+
+#[test]
+fn generated_tables() {
+    let mut compare = Compare::new("reading generated tables");
+    for seed in 0..100_000 {
+        let mut random = Random::new(seed);
+        let maxima = any_maxima(&mut random);
+        let bytes = match seed % 4 {
+            0 => accepted_table(&mut random, maxima).bytes(),
+            _ => damaged_table(&mut random, maxima),
+        };
+        reads(&mut compare, seed, &bytes);
+    }
+    compare.end(4_000_000, 0..=8, 3_000);
+}
+
+#[test]
+fn small_changes() {
+    let mut compare = Compare::new("reading tables with small changes");
+    let bytes: Vec<u8> = (0..=255).collect();
+    let few = [0, 1, 2, 6, 255];
+    let nested = nested().bytes();
+    let few_at_two = |table: Vec<u8>| each_place(&table, &few).collect::<Vec<_>>();
+    let tables = each_place(HARBOUR, &bytes)
+        .chain(each_place(&nested, &bytes))
+        .chain(each_place(HARBOUR, &few).flat_map(few_at_two))
+        .chain(each_length(HARBOUR, 80, state_length))
+        .chain(each_length(&nested, 300, state_length));
+    for (number, table) in tables.enumerate() {
+        reads(&mut compare, number, &table);
+    }
+    // five groups under a path of five, each of any span up to 6: the ways to nest them at most three deep
+    let spans = [0, 1, 2, 3, 4, 5, 6];
+    let tables = each_span(&chain(10).bytes(), &[5, 6, 7, 8, 9], &spans);
+    let tables = tables.iter().enumerate();
+    let accepted = tables.filter(|(number, table)| reads(&mut compare, *number, table));
+    let accepted = accepted.count();
+    compare.same("the number of nestings", accepted, 34);
+    compare.end(10_000_000, 0..=8, 30);
+}
