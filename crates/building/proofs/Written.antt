@@ -3,16 +3,14 @@
 use mathlib.Core.Path.{_≡_, sym, ap, _∙_, subst}
 use mathlib.Core.Bool.{Bool}
 use mathlib.Core.List.{List, _∷_, _++_, append-assoc}
-use Prim.Native.Nat.{ℕ, _+_, _-_, _≤_, _<_}
+use Prim.Native.Nat.{ℕ, _+_, _-_, _≤_}
 use native.Mathlib.Omega.{arith}
-use lib.ListN.{length, take, drop, set, length-append, length-replicate}
-use lib.Seq.{sets, sets-eq, take-all, drop-at, length-sets}
+use lib.ListN.{length, take, drop, length-append, length-replicate}
+use lib.Seq.{sets, sets-eq, drop-at, length-sets}
 use Rattle.answer.specs.Fields.{fields}
 use Rattle.answer.specs.Answers.{zeros, padded}
-use Rattle.answer.proofs.Stored.{stored-on}
-use Rattle.table.specs.Layout.{maximum, maxima, header}
+use Rattle.table.specs.Layout.{maxima}
 use Rattle.table.specs.WellFormed.{WellFormed}
-use Rattle.table.proofs.Maxima.{maxima-length, maxima-each}
 use Rattle.ruling.specs.Meaning.{meaning}
 use Rattle.ruling.proofs.AtMost127Cards.{few-cards}
 use Rattle.diagram.specs.Layout as diagram

@@ -1,6 +1,6 @@
 // The header of a diagram.
-use answer::FIELDS;
-use table::layout::maximum_at;
+use answer::store;
+use table::layout::maxima_at;
 ghost use mathlib.Core.Path.{_≡_};
 ghost use mathlib.Core.List.{_∷_};
 ghost use Prim.Native.Nat.{_≤_};
@@ -18,9 +18,6 @@ pub(crate) fn write_header(diagram: &mut [u16], used: u16, root: u16, table: &[u
 {
     diagram[0] = used;
     diagram[1] = root;
-    let mut field = 0;
-    while field < FIELDS {
-        diagram[2 + field] = maximum_at(table, field) as u16;
-        field += 1;
-    }
+    let maxima = maxima_at(table);
+    store(&maxima, &mut diagram[2..]);
 }

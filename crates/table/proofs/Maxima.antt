@@ -10,7 +10,7 @@ use Rattle.answer.specs.Fields.{fields}
 use Rattle.answer.specs.Answers.{zeros}
 use Rattle.answer.specs.Requests.{value, fieldFault}
 use Rattle.answer.proofs.FirstField.{fault-alike}
-use Rattle.answer.proofs.Stored.{stored-on, stored-padded}
+use Rattle.answer.proofs.Stored.{stored-more, stored-padded}
 use Rattle.table.specs.Layout.{Bytes, maximum, maxima, header}
 use Rattle.table.specs.Reading.{Accepted}
 use Rattle.table.proofs.Header.{accepted-header, headed}
@@ -35,25 +35,22 @@ module _ (t : List ℕ) where
   pub maxima-bytes : Bytes t → (f : ℕ) → f < fields → getD (maxima t) f 0 ≤ 255
   maxima-bytes b f l = omega (arith, maxima-each f l, b (3 + f))
 
--- the maxima before a field's are written from place k of a list on
-abbrev pub Written : List ℕ → List ℕ → ℕ → ℕ → List ℕ → Type 0
-Written t before k field list = list ≡ sets before k (take field (maxima t))
+-- the maxima before a field's are written over zeros
+abbrev pub Written : List ℕ → ℕ → List ℕ → Type 0
+Written t field list = list ≡ sets (zeros fields) 0 (take field (maxima t))
 
-module _ (t before : List ℕ) (h : header ≤ length t) (k field : ℕ) (list : List ℕ) (w : Written t before k field list) where
-  pub written-more : (m p : ℕ) → field < fields → m ≡ maximum t field → p ≡ k + field → Written t before k (field + 1) (set list p m)
-  written-more m p l e is =
-      ap (λ n. set list n m) is
-      ∙ ap (λ x. set x (k + field) m) w
-      ∙ ap (set (sets before k (take field (maxima t))) (k + field)) (e ∙ sym (maxima-each t field l))
-      ∙ stored-on (maxima t) before k field (omega (arith, maxima-length t h))
+module _ (t : List ℕ) (h : header ≤ length t) (field : ℕ) (list : List ℕ) (w : Written t field list) where
+  pub written-more : (m : ℕ) → field < fields → m ≡ maximum t field → Written t (field + 1) (set list field m)
+  written-more m l e =
+      ap (λ x. set x field m) w
+      ∙ ap (set (sets (zeros fields) 0 (take field (maxima t))) field) (e ∙ sym (maxima-each t field l))
+      ∙ stored-more (maxima t) (zeros fields) field (omega (arith, maxima-length t h))
 
-  pub written-all : field ≡ fields → list ≡ sets before k (maxima t)
-  written-all e = w ∙ ap (sets before k) (take-all field (maxima t) (omega (arith, maxima-length t h)))
-
--- over as many zeros
-pub written-alone : (t : List ℕ) → header ≤ length t → sets (zeros fields) 0 (maxima t) ≡ maxima t
-written-alone t h =
-    let none : fields - length (maxima t) ≡ 0 = omega (arith, maxima-length t h) in
-    stored-padded (maxima t) fields (omega (arith, maxima-length t h))
-    ∙ ap (λ n. maxima t ++ zeros n) none
-    ∙ append-nil (maxima t)
+  pub written-all : field ≡ fields → list ≡ maxima t
+  written-all e =
+      let none : fields - length (maxima t) ≡ 0 = omega (arith, maxima-length t h) in
+      w
+      ∙ ap (sets (zeros fields) 0) (take-all field (maxima t) (omega (arith, maxima-length t h)))
+      ∙ stored-padded (maxima t) fields (omega (arith, maxima-length t h))
+      ∙ ap (λ n. maxima t ++ zeros n) none
+      ∙ append-nil (maxima t)

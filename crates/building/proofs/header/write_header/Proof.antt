@@ -1,91 +1,74 @@
--- `building::header::write_header` meets its contract: the maxima before the field are written.
+-- `building::header::write_header` meets its contract: the maxima are stored after the first two numbers.
 -- Assumes nothing.
-use mathlib.Core.Path.{_≡_, refl, _∙_}
-use Prim.Native.Nat.{_+_, _-_, _≤_}
+use mathlib.Core.Path.{_≡_, ap, _∙_}
+use mathlib.Core.List.{List}
+use Prim.Native.Nat.{ℕ, _≤_}
 use native.Mathlib.Omega.{arith}
 use borrow.Author.Needs.{needs}
 use lib.ListN.{length, set, length-set}
+use lib.Seq.{sets}
 use Rattle.answer.specs.Fields.{fields}
-use Rattle.table.specs.Layout.{header}
+use Rattle.table.proofs.Maxima.{maxima-length}
 use Rattle.diagram.specs.Layout as diagram-layout
-use Rattle.table.proofs.Maxima.{Written, written-more, written-all}
+use Rattle.entering.proofs.NumbersWritten.{rest-length, rest-kept, rest-stored}
 use Rattle.building.proofs.header.write_header.Statement.{statement}
 use Rattle.building.proofs.header.write_header.Tie as tie
 
-abbrev Inv-loop : tie.InvT-loop
-Inv-loop diagram₀ used root table field₀ diagram field =
-    (header ≤ length table) × (diagram-layout.header fields ≤ length diagram) × (length diagram ≡ length diagram₀) × (field ≤ fields) × Written table diagram₀ 2 field diagram
+module _ (d : List ℕ) (used root : ℕ) where
+  -- the diagram with the first two numbers
+  abbrev begun : List ℕ
+  begun = set (set d 0 used) 1 root
 
-abbrev μ-loop : tie.MeasureT-loop
-μ-loop diagram₀ used root table field₀ diagram field = fields - field
+  begun-length : length begun ≡ length d
+  begun-length = length-set (set d 0 used) 1 root ∙ length-set d 0 used
 
-slice-write-diagram : tie.Need-slice-write-diagram Inv-loop μ-loop
+  begun-long : diagram-layout.header fields ≤ length d → 2 ≤ length begun
+  begun-long h = omega (arith, begun-length)
+
+slice-write-diagram : tie.Need-slice-write-diagram
 slice-write-diagram c = search needs
 
-slice-write-diagram-2 : tie.Need-slice-write-diagram-2 Inv-loop μ-loop
+slice-write-diagram-2 : tie.Need-slice-write-diagram-2
 slice-write-diagram-2 c = simp length-set (omega arith)
 
-loop-holds : tie.Need-loop-holds Inv-loop μ-loop
-loop-holds c = (c .before .before .pre .0, simp length-set (omega arith), refl, omega arith, refl)
+maxima-at-requires : tie.Need-maxima-at-requires
+maxima-at-requires c κs = search needs
 
-maximum-at-requires : tie.Need-maximum-at-requires Inv-loop μ-loop
-maximum-at-requires c κs = search needs
+slice-aggregate-store : tie.Need-slice-aggregate-store
+slice-aggregate-store c = search needs
 
-cast-diagram : tie.Need-cast-diagram Inv-loop μ-loop
-cast-diagram c = search needs
+sub-store : tie.Need-sub-store
+sub-store c = simp length-set (omega arith)
 
-add-diagram : tie.Need-add-diagram Inv-loop μ-loop
-add-diagram c = search needs
+part-store-start : tie.Need-part-store-start
+part-store-start c = simp length-set (omega arith)
 
-mul-diagram : tie.Need-mul-diagram Inv-loop μ-loop
-mul-diagram c = search needs
+part-store-end : tie.Need-part-store-end
+part-store-end c = search needs
 
-slice-write-diagram-3 : tie.Need-slice-write-diagram-3 Inv-loop μ-loop
-slice-write-diagram-3 c = search needs
+store-requires : tie.Need-store-requires
+store-requires c κs =
+    omega (arith, rest-length (begun (c .before .before .before .before .before .args .diagram .now) (c .before .before .before .before .before .args .used) (c .before .before .before .before .before .args .root)) 2 (begun-long (c .before .before .before .before .before .args .diagram .now) (c .before .before .before .before .before .args .used) (c .before .before .before .before .before .args .root) (c .before .before .before .before .before .pre .1)), begun-length (c .before .before .before .before .before .args .diagram .now) (c .before .before .before .before .before .args .used) (c .before .before .before .before .before .args .root), maxima-length (c .before .before .before .before .before .args .table .now) (c .before .before .before .before .before .pre .0), ap length (c .before .before .maxima-at .ensures))
 
-add-field : tie.Need-add-field Inv-loop μ-loop
-add-field c = search needs
+same-length : tie.Need-same-length
+same-length c = rest-kept (begun (c .before .before .before .before .before .before .before .before .args .diagram .now) (c .before .before .before .before .before .before .before .before .args .used) (c .before .before .before .before .before .before .before .before .args .root)) (c .before .before .store .last .1 .0) 2 (begun-long (c .before .before .before .before .before .before .before .before .args .diagram .now) (c .before .before .before .before .before .before .before .before .args .used) (c .before .before .before .before .before .before .before .before .args .root) (c .before .before .before .before .before .before .before .before .pre .1)) (c .before .before .store .kept .1 .0) ∙ begun-length (c .before .before .before .before .before .before .before .before .args .diagram .now) (c .before .before .before .before .before .before .before .before .args .used) (c .before .before .before .before .before .before .before .before .args .root)
 
-loop-less : tie.Need-loop-less Inv-loop μ-loop
-loop-less c = search needs
-
-loop-again : tie.Need-loop-again Inv-loop μ-loop
-loop-again c =
-    let l = c .before .before .loop in
-    let s = c .before .before .before .before .before .args in
-    let first = set (set (s .diagram .now) 0 (s .used)) 1 (s .root) in (
-      l .inv .0,
-      simp length-set (omega arith),
-      length-set (l .diagram) (2 + l .field) (c .maximum-at .result) ∙ l .inv .2,
-      omega arith,
-      written-more (s .table .now) first (l .inv .0) 2 (l .field) (l .diagram) (l .inv .4) (c .maximum-at .result) (2 + l .field) (c .before .loop-test .taken) (c .maximum-at .ensures) refl,
-    )
-
-same-length : tie.Need-same-length Inv-loop μ-loop
-same-length c = c .before .loop .inv .2 ∙ simp length-set
-
-returns : tie.Need-returns Inv-loop μ-loop
+returns : tie.Need-returns
 returns c =
-    let l = c .before .loop in
-    let s = c .before .before .before .before .args in
-    written-all (s .table .now) (set (set (s .diagram .now) 0 (s .used)) 1 (s .root)) (l .inv .0) 2 (l .field) (l .diagram) (l .inv .4) (omega arith)
+    rest-stored (begun (c .before .before .before .before .before .before .before .before .args .diagram .now) (c .before .before .before .before .before .before .before .before .args .used) (c .before .before .before .before .before .before .before .before .args .root)) (c .before .before .before .before .before .maxima-at .result) (c .before .before .store .last .1 .0) 2 (omega (arith, begun-length (c .before .before .before .before .before .before .before .before .args .diagram .now) (c .before .before .before .before .before .before .before .before .args .used) (c .before .before .before .before .before .before .before .before .args .root), maxima-length (c .before .before .before .before .before .before .before .before .args .table .now) (c .before .before .before .before .before .before .before .before .pre .0), ap length (c .before .before .before .before .before .maxima-at .ensures), c .before .before .before .before .before .before .before .before .pre .1)) (c .before .before .store .ensures)
+    ∙ ap (sets (begun (c .before .before .before .before .before .before .before .before .args .diagram .now) (c .before .before .before .before .before .before .before .before .args .used) (c .before .before .before .before .before .before .before .before .args .root)) 2) (c .before .before .before .before .before .maxima-at .ensures)
 
 pub write-header-spec : {M : Type 1} → statement M
 write-header-spec =
     tie.close
     (tie.spec
-    Inv-loop
-    μ-loop
     slice-write-diagram
     slice-write-diagram-2
-    loop-holds
-    maximum-at-requires
-    cast-diagram
-    add-diagram
-    mul-diagram
-    slice-write-diagram-3
-    add-field
-    loop-less
-    loop-again
+    maxima-at-requires
+    slice-aggregate-store
+    sub-store
+    part-store-start
+    part-store-end
+    store-requires
     same-length
     returns)

@@ -6,14 +6,13 @@ use native.Mathlib.Omega.{arith}
 use borrow.Author.Needs.{needs}
 use lib.ListN.{length, length-set}
 use Rattle.answer.specs.Fields.{fields}
-use Rattle.answer.specs.Answers.{zeros}
 use Rattle.table.specs.Layout.{header}
-use Rattle.table.proofs.Maxima.{Written, written-more, written-all, written-alone}
+use Rattle.table.proofs.Maxima.{Written, written-more, written-all}
 use Rattle.table.proofs.layout.maxima_at.Statement.{statement}
 use Rattle.table.proofs.layout.maxima_at.Tie as tie
 
 abbrev Inv-loop : tie.InvT-loop
-Inv-loop table maxima₀ field₀ maxima field = (header ≤ length table) × (length maxima ≡ fields) × (field ≤ fields) × Written table (zeros fields) 0 field maxima
+Inv-loop table maxima₀ field₀ maxima field = (header ≤ length table) × (length maxima ≡ fields) × (field ≤ fields) × Written table field maxima
 
 abbrev μ-loop : tie.MeasureT-loop
 μ-loop table maxima₀ field₀ maxima field = fields - field
@@ -46,14 +45,14 @@ loop-again c =
       l .inv .0,
       length-set (l .maxima) (l .field) (c .maximum-at .result) ∙ l .inv .1,
       omega arith,
-      written-more (s .table .now) (zeros fields) (l .inv .0) 0 (l .field) (l .maxima) (l .inv .3) (c .maximum-at .result) (l .field) (c .before .loop-test .taken) (c .maximum-at .ensures) (omega arith),
+      written-more (s .table .now) (l .inv .0) (l .field) (l .maxima) (l .inv .3) (c .maximum-at .result) (c .before .loop-test .taken) (c .maximum-at .ensures),
     )
 
 returns : tie.Need-returns Inv-loop μ-loop
 returns c =
     let l = c .before .loop in
     let s = c .before .before .before .args in
-    written-all (s .table .now) (zeros fields) (l .inv .0) 0 (l .field) (l .maxima) (l .inv .3) (omega arith) ∙ written-alone (s .table .now) (l .inv .0)
+    written-all (s .table .now) (l .inv .0) (l .field) (l .maxima) (l .inv .3) (omega arith)
 
 pub maxima-at-spec : {M : Type 1} → statement M
 maxima-at-spec =
