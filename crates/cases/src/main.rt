@@ -1,41 +1,22 @@
-// Document 01's cases of reading a table, of ruling and of ruling by a diagram, from standard input, sweeps over changed
-// tables and diagrams, and rulings by generated ones: what the library answers, held to what the document says and to a
-// separately written reader, evaluator and look-up.
-mod builder;
-mod checker;
-mod damage;
-mod descent;
-mod diagram_damage;
-mod diagram_edits;
-mod diagram_generator;
-mod diagram_sweep;
-mod diagrams;
-mod edits;
-mod evaluator;
-mod generated;
-mod generated_diagrams;
-mod generator;
-mod lookups;
-mod random;
-mod reader;
-mod report;
-mod requests;
-mod ruling_sweep;
-mod rulings;
+// The cases of standard input, whose head describes them: what the library answers and writes, compared with what each
+// case says.
+mod calls;
+mod input;
+mod numbers;
 mod script;
-mod sweep;
-mod tables;
+mod tally;
 mod text;
 
+// Room for more than the whole input.
+const ROOM: usize = 262144;
+
 fn main() {
-    let mut space = io::large_buffer();
-    let room: &mut [u8] = &mut space;
-    let n = io::read_full(0, room);
-    let tally = script::cases(report::Tally::new(), report::part(room, n));
-    let tally = sweep::cases(tally);
-    let tally = ruling_sweep::cases(tally);
-    let tally = generated::cases(tally);
-    let tally = diagram_sweep::cases(tally);
-    let tally = generated_diagrams::cases(tally);
-    tally.print();
+    let mut space = [0u8; ROOM];
+    let n = io::read_full(0, &mut space);
+    let tally = script::run(&space[..n]);
+    if n < ROOM {
+        tally.print();
+    } else {
+        tally.not_understood(b"input past the room for it").print();
+    }
 }

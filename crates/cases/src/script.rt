@@ -1,137 +1,110 @@
-// The named cases, a line each: a table to start from, edits of it, a colon, and the answer that document 01 gives:
-// number, place, count. A case of ruling has a request before the colon, as `; ask 2 0 0 list 3`, and its answer is
-// number, place, decision, count, and the whole list of cards. So has a case of ruling by a diagram, which it starts from
-// in place of a table. A line that begins with `#` says what follows.
-ghost use Prim.Native.Nat.{_≤_};
-ghost use lib.ListN.{length};
-use crate::builder::Draft;
-use crate::diagram_edits;
-use crate::diagrams;
-use crate::edits;
-use crate::evaluator::ROOM;
-use crate::evaluator::Response;
-use crate::reader::Outcome;
-use crate::report;
-use crate::report::Tally;
-use crate::rulings::Query;
-use crate::text;
+// The lines of the input, one after another.
+use crate::calls;
+use crate::calls::PLACES;
+use crate::numbers::first_difference;
+use crate::numbers::wide;
+use crate::tally::Tally;
+use crate::text::between;
+use crate::text::byte_at;
+use crate::text::find;
+use crate::text::scan;
+use answer::Answer;
 use std::num::wrapping_add_usize;
 
-pub(crate) fn cases(tally: Tally, script: &[u8]) -> Tally {
-    let mut tested = tally;
+// What each lent place holds before a call.
+const MARK: u16 = 9999;
+
+// Where the line with the last table and that with the last diagram begin, and what was counted.
+struct State {
+    table: usize,
+    diagram: usize,
+    tally: Tally,
+}
+
+pub(crate) fn run(script: &[u8]) -> Tally {
+    let mut state = State {
+        table: 0,
+        diagram: 0,
+        tally: Tally::new(),
+    };
     let mut from = 0;
     while from < script.len() {
-        let end = text::find(script, from, b'\n', b'\n');
-        tested = case(tested, text::between(script, from, end));
+        state = state.line(script, from);
+        let end = find(script, from, b'\n');
         if end >= script.len() {
-            return tested;
+            return state.tally;
         }
         from = end + 1;
     }
-    tested
+    state.tally
 }
 
-// One case, whose name is the line up to the colon.
-fn case(tally: Tally, line: &[u8]) -> Tally {
-    if text::byte(line, 0) == b'#' {
-        return tally;
-    }
-    let semicolon = text::find(line, 0, b';', b':');
-    let colon = text::find(line, semicolon, b':', b':');
-    io::write_all(1, report::part(line, colon));
-    if diagram_edits::is_diagram(line) {
-        return diagram_case(tally, line, semicolon, colon);
-    }
-    if semicolon < colon {
-        tally.ruling_case(
-            made(line, semicolon),
-            asked(line, semicolon),
-            response(line, colon),
-        )
-    } else {
-        tally.case(made(line, colon), answer(line, colon))
-    }
-}
-
-fn diagram_case(tally: Tally, line: &[u8], semicolon: usize, colon: usize) -> Tally
-    requires { ⌜ semicolon ≤ length (now line) ⌝ }
-{
-    let mut numbers = [0; diagrams::ROOM];
-    let length = diagram_edits::made(&mut numbers, line, semicolon);
-    tally.lookup_case(
-        diagrams::part(&numbers, length),
-        asked(line, semicolon),
-        response(line, colon),
-    )
-}
-
-// The request after the semicolon.
-fn asked(line: &[u8], semicolon: usize) -> Query {
-    let subject = text::number(line, semicolon);
-    let resource = text::number(line, subject.next);
-    let action = text::number(line, resource.next);
-    let length = text::number(line, action.next);
-    Query {
-        values: [
-            edits::short(subject.value),
-            edits::short(resource.value),
-            edits::short(action.value),
-        ],
-        length: length.value,
+impl State {
+    // One line more: empty or a comment, a table, a diagram, or else a case.
+    fn line(mut self, script: &[u8], from: usize) -> Self {
+        let line = line_at(script, from);
+        if (line.len() == 0) | (byte_at(line, 0) == b'#') {
+            return self;
+        }
+        if fits(line, b"table %") {
+            self.table = from;
+            return self;
+        }
+        if fits(line, b"diagram *") {
+            self.diagram = from;
+            return self;
+        }
+        let tally = self.tally;
+        let table = line_at(script, self.table);
+        self.tally = tested(tally, line, table, line_at(script, self.diagram));
+        self
     }
 }
 
-// The answer of a ruling, after the colon.
-fn response(line: &[u8], colon: usize) -> Response {
-    let number = text::number(line, colon);
-    let place = text::number(line, number.next);
-    let decision = text::number(line, place.next);
-    let count = text::number(line, decision.next);
-    let cards = numbers(line, count.next);
-    Response {
-        number: number.value,
-        place: place.value,
-        decision: decision.value,
-        count: count.value,
-        cards,
-    }
+fn line_at(script: &[u8], from: usize) -> &[u8] {
+    between(script, from, find(script, from, b'\n'))
 }
 
-// A list's numbers.
-fn numbers(line: &[u8], from: usize) -> [u16; ROOM] {
-    let mut list = [0; ROOM];
-    let mut next = from;
-    let mut at = 0;
-    while at < ROOM {
-        let number = text::number(line, next);
-        list[at] = edits::short(number.value);
-        next = number.next;
-        at += 1;
-    }
-    list
+fn fits(line: &[u8], pattern: &[u8]) -> bool {
+    let mut list = [0; PLACES];
+    scan(line, pattern, &mut list).fits
 }
 
-// The answer after the colon.
-fn answer(line: &[u8], colon: usize) -> Outcome {
-    let number = text::number(line, colon);
-    let place = text::number(line, number.next);
-    let count = text::number(line, place.next);
-    Outcome {
-        number: number.value,
-        place: place.value,
-        count: count.value,
+// A case, `NAME: CALL; CHANGES; ANSWER; WRITTEN`, with the lines of its table and its diagram.
+fn tested(tally: Tally, line: &[u8], table: &[u8], diagram: &[u8]) -> Tally {
+    let colon = find(line, 0, b':');
+    let first = find(line, colon, b';');
+    let second = find(line, wrapping_add_usize(first, 1), b';');
+    let third = find(line, wrapping_add_usize(second, 1), b';');
+    let name = between(line, 0, colon);
+    let call = calls::named(part(line, colon, first));
+    let mut due = [0; 4];
+    let answer = scan(part(line, second, third), b"*", &mut due);
+    let mut written = [0; PLACES];
+    let list = scan(part(line, third, line.len()), b"*", &mut written);
+    let mut lent = [MARK; PLACES];
+    let given = calls::ask(call, table, diagram, part(line, first, second), &mut lent);
+    let whole = (third < line.len()) & answer.fits & (answer.count == 4) & list.fits;
+    if !whole | (list.count > call.places) | (given.number == calls::NOT_ASKED) {
+        return tally.not_understood(name);
     }
+    let counted = tally.due(call.which, wide(due[0]));
+    let place = first_difference(&lent, &written, call.places);
+    if is_due(given, due) & (place == call.places) {
+        return counted;
+    }
+    counted.differs(name, given, place, call.places)
 }
 
-// The table: each comma before an end starts an edit, two bytes on.
-fn made(line: &[u8], end: usize) -> Draft
-    requires { ⌜ end ≤ length (now line) ⌝ }
-{
-    let mut draft = edits::start(line);
-    let mut comma = text::find(line, 0, b',', b':');
-    while comma < end {
-        draft = edits::edited(draft, line, wrapping_add_usize(comma, 2));
-        comma = text::find(line, comma + 1, b',', b':');
-    }
-    draft
+// What stands after one place, up to another.
+fn part(line: &[u8], before: usize, end: usize) -> &[u8] {
+    between(line, wrapping_add_usize(before, 1), end)
+}
+
+// Whether an answer has the number, place, decision and count that are due.
+fn is_due(answer: Answer, due: [u16; 4]) -> bool {
+    (answer.number as usize == wide(due[0]))
+        & (answer.place == wide(due[1]))
+        & (answer.decision as usize == wide(due[2]))
+        & (answer.count == wide(due[3]))
 }

@@ -1,4 +1,4 @@
--- `text::find` is safe, ends, and hands back a place of the text or its end.
+-- `text::find` is safe and ends, and finds no earlier place: each turn goes on to a later one.
 -- Assumes nothing.
 use Prim.Native.Nat.{_≤_, _-_}
 use lib.ListN.{length}
@@ -7,34 +7,10 @@ use Rattle.cases.proofs.text.find.Statement.{statement}
 use Rattle.cases.proofs.text.find.Tie as tie
 
 abbrev Inv-loop : tie.InvT-loop
-Inv-loop text from one other at₀ at = (from ≤ at) × (at ≤ length text)
+Inv-loop text from byte at₀ at = from ≤ at
 
 abbrev μ-loop : tie.MeasureT-loop
-μ-loop text from one other at₀ at = length text - at
-
-loop-holds : tie.Need-loop-holds Inv-loop μ-loop
-loop-holds c = search needs
-
-shared-slice-read-found : tie.Need-shared-slice-read-found Inv-loop μ-loop
-shared-slice-read-found c = search needs
-
-returns : tie.Need-returns Inv-loop μ-loop
-returns c = search needs
-
-returns-2 : tie.Need-returns-2 Inv-loop μ-loop
-returns-2 c = search needs
-
-add-at : tie.Need-add-at Inv-loop μ-loop
-add-at c = search needs
-
-loop-less : tie.Need-loop-less Inv-loop μ-loop
-loop-less c = search needs
-
-loop-again : tie.Need-loop-again Inv-loop μ-loop
-loop-again c = search needs
-
-returns-3 : tie.Need-returns-3 Inv-loop μ-loop
-returns-3 c = search needs
+μ-loop text from byte at₀ at = length text - at
 
 pub find-spec : {M : Type 1} → statement M
 find-spec =
@@ -42,11 +18,10 @@ find-spec =
     (tie.spec
     Inv-loop
     μ-loop
-    loop-holds
-    shared-slice-read-found
-    returns
-    returns-2
-    add-at
-    loop-less
-    loop-again
-    returns-3)
+    (λ c. search needs)
+    (λ c. search needs)
+    (λ c. search needs)
+    (λ c. search needs)
+    (λ c. search needs)
+    (λ c. search needs)
+    (λ c. search needs))
