@@ -7,6 +7,7 @@ mod evaluator;
 mod generator;
 
 mod building;
+mod lengths;
 mod looking_up;
 mod pairs;
 mod reading;

@@ -13,7 +13,7 @@ const MARK: u16 = 0xA5A5;
 const AROUND: usize = 4;
 
 /// How many tests compare, and how many comparisons all of them make at least.
-const TESTS: usize = 11;
+const TESTS: usize = 12;
 const COMPARISONS: u64 = 450_000_000;
 
 /// What the tests that ended did.
@@ -55,8 +55,10 @@ impl Compare {
     }
 
     pub fn reads(&mut self, bytes: &[u8], due: &Due) {
-        let answer = kolfsein::read(bytes);
+        let table = bytes.to_vec();
+        let answer = kolfsein::read(&table);
         self.counted(answer, due);
+        self.stays(&table, bytes);
     }
 
     /// Rules with each of some lists.
@@ -99,26 +101,32 @@ impl Compare {
 
     /// Rules with a list of so many places.
     pub fn rules(&mut self, bytes: &[u8], values: Values, places: usize, due: &Due) {
-        let call = |list: &mut [u16]| kolfsein::rule(bytes, asked(values), list);
+        let table = bytes.to_vec();
+        let call = |list: &mut [u16]| kolfsein::rule(&table, asked(values), list);
         let (answer, list) = self.lend(places, call);
         self.ruled(answer, due);
         self.lent(&list, due);
+        self.stays(&table, bytes);
     }
 
     /// Builds in a room of so many places, and hands back what it then holds.
     pub fn builds(&mut self, bytes: &[u8], places: usize, due: &Due) -> Vec<u16> {
-        let (answer, room) = self.lend(places, |room| kolfsein::build(bytes, room));
+        let table = bytes.to_vec();
+        let (answer, room) = self.lend(places, |room| kolfsein::build(&table, room));
         self.counted(answer, due);
         self.lent(&room, due);
+        self.stays(&table, bytes);
         room
     }
 
     /// Looks up with a list of so many places.
-    pub fn looks_up(&mut self, diagram: &[u16], values: Values, places: usize, due: &Due) {
-        let call = |list: &mut [u16]| kolfsein::look_up(diagram, asked(values), list);
+    pub fn looks_up(&mut self, numbers: &[u16], values: Values, places: usize, due: &Due) {
+        let diagram = numbers.to_vec();
+        let call = |list: &mut [u16]| kolfsein::look_up(&diagram, asked(values), list);
         let (answer, list) = self.lend(places, call);
         self.ruled(answer, due);
         self.lent(&list, due);
+        self.stays(&diagram, numbers);
     }
 
     /// One comparison.
@@ -169,6 +177,11 @@ impl Compare {
         let given = refusal.map_or((0, 0), |refusal| (number(refusal.reason), refusal.place));
         self.same("number", given.0, due.number);
         self.same("place", given.1, due.place);
+    }
+
+    /// "Inputs only read don't change": what a call was handed is as it was.
+    fn stays<T: PartialEq>(&mut self, handed: &[T], was: &[T]) {
+        self.same("whether the input stays", handed == was, true);
     }
 
     /// The numbers due, and zeros after them.
