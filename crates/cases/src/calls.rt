@@ -34,28 +34,43 @@ pub(crate) struct Call {
 // The call that a text says.
 pub(crate) fn named(text: &[u8]) -> Call {
     let mut list = [0; 4];
-    let which = if says(text, b" read", 0, &mut list) {
-        READ
-    } else if says(text, b" rule*list*", 4, &mut list) {
-        RULE
-    } else if says(text, b" build room*", 1, &mut list) {
-        BUILD
-    } else if says(text, b" look_up*list*", 4, &mut list) {
-        LOOK_UP
-    } else {
-        CALLS
-    };
-    Call {
-        which,
-        values: [list[0], list[1], list[2]],
-        places: wide(if which == BUILD { list[0] } else { list[3] }),
+    let mut which = 0;
+    while which < CALLS {
+        if says(which, text, &mut list) {
+            return made(which, list);
+        }
+        which += 1;
+    }
+    made(CALLS, list)
+}
+
+// Whether a text says a call, with its numbers in a list.
+fn says(which: usize, text: &[u8], list: &mut [u16; 4]) -> bool {
+    match which {
+        READ => is_worded(text, b" read", 0, list),
+        RULE => is_worded(text, b" rule*list*", 4, list),
+        BUILD => is_worded(text, b" build room*", 1, list),
+        _ => is_worded(text, b" look_up*list*", 4, list),
     }
 }
 
 // Whether a text is worded as a pattern, with so many numbers.
-fn says(text: &[u8], pattern: &[u8], count: usize, list: &mut [u16]) -> bool {
+fn is_worded(text: &[u8], pattern: &[u8], count: usize, list: &mut [u16]) -> bool {
     let scanned = scan(text, pattern, list);
     scanned.fits & (scanned.count == count)
+}
+
+fn made(which: usize, numbers: [u16; 4]) -> Call {
+    let places = if which == BUILD {
+        numbers[0]
+    } else {
+        numbers[3]
+    };
+    Call {
+        which,
+        values: [numbers[0], numbers[1], numbers[2]],
+        places: wide(places),
+    }
 }
 
 // What the library answers to a call, by the line with the last table or that with the last diagram, and by a case's

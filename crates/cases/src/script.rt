@@ -1,5 +1,6 @@
 // The lines of the input, one after another.
 use crate::calls;
+use crate::calls::Call;
 use crate::calls::PLACES;
 use crate::numbers::first_difference;
 use crate::numbers::wide;
@@ -70,35 +71,69 @@ fn fits(line: &[u8], pattern: &[u8]) -> bool {
     scan(line, pattern, &mut list).fits
 }
 
-// A case, `NAME: CALL; CHANGES; ANSWER; WRITTEN`, with the lines of its table and its diagram.
+// The parts of a case, `NAME: CALL; CHANGES; ANSWER; WRITTEN`.
+const NAME: usize = 0;
+
+const CALL: usize = 1;
+
+const CHANGES: usize = 2;
+
+const ANSWER: usize = 3;
+
+const WRITTEN: usize = 4;
+
+// Where a part of a case ends.
+fn end_of(line: &[u8], part: usize) -> usize {
+    let mut end = find(line, 0, b':');
+    let mut left = part;
+    while left > 0 {
+        end = find(line, wrapping_add_usize(end, 1), b';');
+        left -= 1;
+    }
+    end
+}
+
+// A part of a case; none where the case has no such part.
+fn part(line: &[u8], part: usize) -> &[u8] {
+    if part == NAME {
+        return between(line, 0, end_of(line, NAME));
+    }
+    let before = end_of(line, part - 1);
+    between(line, wrapping_add_usize(before, 1), end_of(line, part))
+}
+
+// Whether a line has the parts of a case, and no more.
+fn is_case(line: &[u8]) -> bool {
+    (end_of(line, ANSWER) < line.len()) & (end_of(line, WRITTEN) == line.len())
+}
+
+// A case, with the lines of its table and its diagram: its call is made.
 fn tested(tally: Tally, line: &[u8], table: &[u8], diagram: &[u8]) -> Tally {
-    let colon = find(line, 0, b':');
-    let first = find(line, colon, b';');
-    let second = find(line, wrapping_add_usize(first, 1), b';');
-    let third = find(line, wrapping_add_usize(second, 1), b';');
-    let name = between(line, 0, colon);
-    let call = calls::named(part(line, colon, first));
-    let mut due = [0; 4];
-    let answer = scan(part(line, second, third), b"*", &mut due);
-    let mut written = [0; PLACES];
-    let list = scan(part(line, third, line.len()), b"*", &mut written);
+    let call = calls::named(part(line, CALL));
     let mut lent = [MARK; PLACES];
-    let given = calls::ask(call, table, diagram, part(line, first, second), &mut lent);
-    let whole = (third < line.len()) & answer.fits & (answer.count == 4) & list.fits;
-    if !whole | (list.count > call.places) | (given.number == calls::NOT_ASKED) {
-        return tally.not_understood(name);
+    let given = calls::ask(call, table, diagram, part(line, CHANGES), &mut lent);
+    if given.number == calls::NOT_ASKED {
+        return tally.not_understood(part(line, NAME));
+    }
+    compared(tally, line, call, given, &lent)
+}
+
+// What a call gave, and what it left in all that it could be lent, compared with what the case says.
+fn compared(tally: Tally, line: &[u8], call: Call, given: Answer, lent: &[u16; PLACES]) -> Tally {
+    let mut due = [0; 4];
+    let answer = scan(part(line, ANSWER), b"*", &mut due);
+    let mut written = [0; PLACES];
+    let list = scan(part(line, WRITTEN), b"*", &mut written);
+    let whole = is_case(line) & answer.fits & (answer.count == 4) & list.fits;
+    if !whole | (list.count > call.places) {
+        return tally.not_understood(part(line, NAME));
     }
     let counted = tally.due(call.which, wide(due[0]));
-    let place = first_difference(&lent, &written, call.places);
+    let place = first_difference(lent, &written, call.places);
     if is_due(given, due) & (place == call.places) {
         return counted;
     }
-    counted.differs(name, given, place, call.places)
-}
-
-// What stands after one place, up to another.
-fn part(line: &[u8], before: usize, end: usize) -> &[u8] {
-    between(line, wrapping_add_usize(before, 1), end)
+    counted.differs(part(line, NAME), given, place, call.places)
 }
 
 // Whether an answer has the number, place, decision and count that are due.
