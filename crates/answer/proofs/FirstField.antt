@@ -17,7 +17,7 @@ module _ (p : ℕ → Bool) where
   first-more : (i k : ℕ) (b : Bool) → p i ≡ b → firstFrom p i (suc k) ≡ cond b i (firstFrom p (i + 1) k)
   first-more i k b e = ap (λ x. cond x i (firstFrom p (i + 1) k)) e
 
-  -- where none of k passes, it is past them
+  -- where none of k numbers passes, the first that does is past them
   pub first-none : (k i : ℕ) → ((j : ℕ) → i ≤ j → j < i + k → p j ≡ false) → firstFrom p i k ≡ i + k
   first-none zero i h = omega arith
   first-none (suc k) i h =
@@ -41,7 +41,7 @@ module _ (p : ℕ → Bool) where
             (eq-or-lt-of-le l),
       )
 
-  -- where it is one of k, it passes
+  -- where the first is one of the k numbers, it passes
   pub first-passes : (k i : ℕ) → firstFrom p i k < i + k → p (firstFrom p i k) ≡ true
   first-passes zero i l = absurd (omega arith)
   first-passes (suc k) i l = by (p i) refl (first-passes k (i + 1))
@@ -65,43 +65,42 @@ first-alike p r (suc k) i h =
     ∙ ap (cond (r i) i) (first-alike p r k (i + 1) (λ j l m. h j (omega arith) (omega arith)))
 
 -- maxima that are the same for each field
-pub fault-alike : (m n : ℕ → ℕ) (q : List ℕ) → ((f : ℕ) → f < fields → m f ≡ n f) → fieldFault m q ≡ fieldFault n q
+pub fault-alike : (m n : ℕ → ℕ) (q : List ℕ) (from : ℕ) → from ≤ fields → ((f : ℕ) → f < fields → m f ≡ n f) → fieldFault m q from ≡ fieldFault n q from
 unfolding fieldFault
-fault-alike m n q h =
-    first-alike (valueFault m q) (valueFault n q) fields 0 (λ f l r. ap (λ k. ltb k (value q f)) (h f (omega arith)))
+fault-alike m n q from h e =
+    first-alike (valueFault m q) (valueFault n q) (fields - from) from (λ f l r. ap (λ k. ltb k (value q f)) (e f (omega arith)))
 
 module _ (maximum : ℕ → ℕ) (q : List ℕ) where
-  -- a request within the maxima has no faulty field
-  pub within-none : Within maximum q → fieldFault maximum q ≡ fields
-  unfolding fieldFault
-  within-none h =
-      first-none (valueFault maximum q) fields 0 (λ j l r. le-ltb (maximum j) (value q j) (h j (omega arith)))
+  module _ (from : ℕ) (start : from ≤ fields) where
+    -- no field from this one on is over its maximum
+    pub none-over : fields ≤ fieldFault maximum q from → (f : ℕ) → from ≤ f → f < fields → valueFault maximum q f ≡ false
+    unfolding fieldFault
+    none-over h f l m = first-least (valueFault maximum q) (fields - from) from .1 f l (omega arith)
 
-  -- and one that has none is within them
-  pub none-within : fields ≤ fieldFault maximum q → Within maximum q
-  unfolding fieldFault
-  none-within h f l =
-      ltb-false (maximum f) (value q f) (first-least (valueFault maximum q) fields 0 .1 f (omega arith) (omega arith))
+    -- the field named is over its maximum, and no earlier one is
+    pub first-over : fieldFault maximum q from < fields →
+        (from ≤ fieldFault maximum q from)
+        × ((valueFault maximum q (fieldFault maximum q from) ≡ true)
+        × ((f : ℕ) → from ≤ f → f < fieldFault maximum q from → valueFault maximum q f ≡ false))
+    unfolding fieldFault
+    first-over h =
+        let least = first-least (valueFault maximum q) (fields - from) from in
+        (least .0, (first-passes (valueFault maximum q) (fields - from) from (omega arith), least .1))
 
-  -- the field named is over its maximum, and no earlier one is
-  pub first-fault : fieldFault maximum q < fields →
-      (maximum (fieldFault maximum q) < value q (fieldFault maximum q))
-      × ((f : ℕ) → f < fieldFault maximum q → value q f ≤ maximum f)
-  unfolding fieldFault
-  first-fault h = (
-    ltb-true (maximum (fieldFault maximum q)) (value q (fieldFault maximum q)) (first-passes (valueFault maximum q) fields 0 h),
-    λ f l. ltb-false (maximum f) (value q f) (first-least (valueFault maximum q) fields 0 .1 f (omega arith) l),
-  )
+  -- a request that has no faulty field is within the maxima
+  pub none-over-within : fields ≤ fieldFault maximum q 0 → Within maximum q
+  none-over-within h f l = ltb-false (maximum f) (value q f) (none-over 0 (omega arith) h f (omega arith) l)
 
+module _ (maximum : ℕ → ℕ) (q : List ℕ) (from : ℕ) where
   -- the search for a faulty field stands at field f
   abbrev pub Searched : ℕ → Type 0
-  Searched f = fieldFault maximum q ≡ firstFrom (valueFault maximum q) f (fields - f)
+  Searched f = fieldFault maximum q from ≡ firstFrom (valueFault maximum q) f (fields - f)
 
-  pub search-starts : Searched 0
+  pub search-starts : Searched from
   unfolding fieldFault
   search-starts = refl
 
-  pub field-found : (f m : ℕ) → f < fields → m ≡ maximum f → m < value q f → Searched f → f ≡ fieldFault maximum q
+  pub field-found : (f m : ℕ) → f < fields → m ≡ maximum f → m < value q f → Searched f → f ≡ fieldFault maximum q from
   field-found f m l e h s =
       sym (s ∙ search-more (valueFault maximum q) f fields true l (lt-ltb (maximum f) (value q f) (omega arith)))
 
@@ -109,5 +108,5 @@ module _ (maximum : ℕ → ℕ) (q : List ℕ) where
   field-passed f m l e h s =
       s ∙ search-more (valueFault maximum q) f fields false l (le-ltb (maximum f) (value q f) (omega arith))
 
-  pub no-field : (f : ℕ) → f ≡ fields → Searched f → fields ≡ fieldFault maximum q
+  pub no-field : (f : ℕ) → f ≡ fields → Searched f → fields ≡ fieldFault maximum q from
   no-field f e s = sym (s ∙ search-ends (valueFault maximum q) f fields (omega arith) ∙ e)

@@ -1,7 +1,7 @@
 -- Laws of what every call shares.
 pub mod Tests
 pub mod FirstField
-pub mod Answering
+pub mod RequestsInOrder
 pub mod Settling
+pub mod RequestRefusals
 pub mod Stored
-pub mod RequestOutcome

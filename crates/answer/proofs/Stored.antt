@@ -9,7 +9,7 @@ use lib.ListN.{length, getD, set, take, drop, length-replicate}
 use lib.Seq.{sets, sets-eq, take-suc, length-take-le}
 use Rattle.answer.specs.Answers.{zeros, padded}
 
--- some cards, and then others
+-- storing cs and then ds is storing both at once
 pub stored-join : (cs ds list : List ℕ) (k : ℕ) → sets list k (cs ++ ds) ≡ sets (sets list k cs) (k + length cs) ds
 stored-join [] ds list k = let z : k ≡ k + 0 = omega arith in ap (λ n. sets list n ds) z
 stored-join (c ∷ cs) ds list k =
@@ -29,6 +29,10 @@ stored-padded cs n l =
     ∙ ap (λ k. cs ++ drop k (zeros n)) z
     ∙ ap (λ ds. cs ++ ds) (drop-zeros (length cs) n)
 
+-- cards stored in a list that was cleared stand there with zeros after them
+pub stored-cleared : (cs list before : List ℕ) (n : ℕ) → before ≡ zeros n → list ≡ sets before 0 cs → length cs ≤ n → list ≡ padded cs n
+stored-cleared cs list before n z e l = e ∙ ap (λ b. sets b 0 cs) z ∙ stored-padded cs n l
+
 -- the numbers before the i-th stand from place k on, and it is stored
 pub stored-on : (ns list : List ℕ) (k i : ℕ) → i < length ns → set (sets list k (take i ns)) (k + i) (getD ns i 0) ≡ sets list k (take (i + 1) ns)
 stored-on ns list k i l =
@@ -37,7 +41,7 @@ stored-on ns list k i l =
     ∙ sym (stored-join (take i ns) (getD ns i 0 ∷ []) list k)
     ∙ ap (sets list k) (sym (take-suc ns i 0 l) ∙ ap (λ n. take n ns) (sym (add-one i)))
 
--- from the first place on
+-- numbers stored from the first place on, and one more
 pub stored-more : (ns list : List ℕ) (i : ℕ) → i < length ns → set (sets list 0 (take i ns)) i (getD ns i 0) ≡ sets list 0 (take (i + 1) ns)
 stored-more ns list i l =
     let z : i ≡ 0 + i = omega arith in

@@ -1,4 +1,6 @@
 pub mod Fields
 pub mod Answers
+pub mod Refusals
 pub mod Requests
+pub mod Order
 pub mod Rulings

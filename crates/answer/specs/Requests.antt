@@ -2,7 +2,7 @@
 -- Assumes nothing: these are definitions.
 use mathlib.Core.Bool.{Bool, cond}
 use mathlib.Core.List.{List}
-use Prim.Native.Nat.{ℕ, zero, suc, _+_, _≤_, _<_}
+use Prim.Native.Nat.{ℕ, zero, suc, _+_, _-_, _≤_, _<_}
 use lib.Dec.{ltb}
 use lib.ListN.{getD}
 use Rattle.answer.specs.Fields.{fields}
@@ -24,6 +24,6 @@ abbrev pub firstFrom : (ℕ → Bool) → ℕ → ℕ → ℕ
 firstFrom p i zero = i
 firstFrom p i (suc k) = cond (p i) i (firstFrom p (i + 1) k)
 
--- 9: "value over its maximum; first such field"; the number of fields where there is none
-unfoldable pub fieldFault : (ℕ → ℕ) → List ℕ → ℕ
-fieldFault maximum q = firstFrom (valueFault maximum q) 0 fields
+-- 9: "value over its maximum; first such field", of the fields from a given one on; the number of fields where there is none
+unfoldable pub fieldFault : (ℕ → ℕ) → List ℕ → ℕ → ℕ
+fieldFault maximum q from = firstFrom (valueFault maximum q) from (fields - from)

@@ -1,13 +1,13 @@
--- What a request is answered, and what the lent list then holds, as document 01 words it: shared by every way of ruling.
+-- What a request is given, and how it is refused, as document 01 words it: shared by every way of ruling.
 -- Assumes nothing: these are definitions.
-use mathlib.Core.Bool.{cond}
-use mathlib.Core.List.{List}
-use Prim.Native.Nat.{ℕ}
-use lib.Dec.{eqb, ltb}
+use mathlib.Core.List.{List, [], _∷_, _++_}
+use Prim.Native.Nat.{ℕ, _-_}
+use lib.Dec.{ltb}
 use lib.ListN.{length}
 use Rattle.answer.specs.Fields.{fields}
 use Rattle.answer.specs.Answers.{refused, ruled, zeros, padded}
-use Rattle.answer.specs.Requests.{fieldFault}
+use Rattle.answer.specs.Requests.{valueFault}
+use Rattle.answer.specs.Refusals.{Refusal, row, upward, settled}
 use Rattle.answer.specs.declared.Answer.{Answer}
 
 -- what a request is given: a decision, and "the cards of all matching rules in table order"
@@ -15,15 +15,26 @@ pub record Ruling : Type 0 where
   pub decision : ℕ
   pub cards : List ℕ
 
--- "as count, the number of matching rules", which is that of the cards; 10: "list shorter than the cards", of n places
-abbrev pub ruledOrShort : Ruling → ℕ → Answer
-ruledOrShort r n = cond (ltb n (length (r .cards))) (refused 10 0) (ruled (r .decision) (length (r .cards)))
+-- "9, field 0 to 2 | value over its maximum; first such field", of the fields from a given one on
+abbrev pub valueRefusals : (ℕ → ℕ) → List ℕ → ℕ → List Refusal
+valueRefusals maximum q from = upward (λ f. row 9 f (valueFault maximum q f) ∷ []) from (fields - from)
 
--- "then 9, 10 for a question": the answer to request q, where r is the ruling and the list has n places
-unfoldable pub answered : (ℕ → ℕ) → List ℕ → Ruling → ℕ → Answer
-answered maximum q r n =
-    cond (ltb (fieldFault maximum q) fields) (refused 9 (fieldFault maximum q)) (ruledOrShort r n)
+-- "10, 0 | list shorter than the cards", of n places
+abbrev pub listRefusal : Ruling → ℕ → Refusal
+listRefusal r n = row 10 0 (ltb n (length (r .cards)))
 
--- What a list of n places then holds: "zeros in the whole lent list" of a refusal, else the cards and "zeros to the list's end".
-unfoldable pub listed : Answer → List ℕ → ℕ → List ℕ
-listed a cards n = cond (eqb (a .number) 0) (padded cards n) (zeros n)
+-- "then 9, 10 for a question": of request q, where r is the ruling and the list has n places
+abbrev pub requestRefusals : (ℕ → ℕ) → List ℕ → Ruling → ℕ → List Refusal
+requestRefusals maximum q r n = valueRefusals maximum q 0 ++ (listRefusal r n ∷ [])
+
+-- "A ruling has number 0 and place 0", "A ruling's count is its cards": the answer that gives the ruling r
+abbrev pub answerOf : Ruling → Answer
+answerOf r = ruled (r .decision) (length (r .cards))
+
+-- the answer of a call with these refusals that gives the ruling r
+abbrev pub ruledOr : List Refusal → Ruling → Answer
+ruledOr refusals r = settled refused (answerOf r) refusals
+
+-- "zeros in the whole lent list" of a refusal, else these numbers and then "zeros to the list's end", of n places
+abbrev pub listedOr : List Refusal → List ℕ → ℕ → List ℕ
+listedOr refusals numbers n = settled (λ number place. zeros n) (padded numbers n) refusals

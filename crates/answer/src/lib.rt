@@ -36,36 +36,28 @@ impl Answer {
     pub fn refused(number: u8, place: usize) -> Self
         ensures { λ r. ⌜ r ≡ refused number place ⌝ }
     {
-        Self {
-            number,
-            decision: 0,
-            place,
-            count: 0,
-        }
+        let mut answer = Self::blank();
+        answer.number = number;
+        answer.place = place;
+        answer
     }
 
     // The answer of a call that gives a count and no decision.
     pub fn counted(count: usize) -> Self
         ensures { λ r. ⌜ r ≡ counted count ⌝ }
     {
-        Self {
-            number: 0,
-            decision: 0,
-            place: 0,
-            count,
-        }
+        let mut answer = Self::blank();
+        answer.count = count;
+        answer
     }
 
     // The answer of a ruling.
     pub fn ruled(decision: u8, count: usize) -> Self
         ensures { λ r. ⌜ r ≡ ruled decision count ⌝ }
     {
-        Self {
-            number: 0,
-            decision,
-            place: 0,
-            count,
-        }
+        let mut answer = Self::counted(count);
+        answer.decision = decision;
+        answer
     }
 }
 
@@ -74,12 +66,12 @@ pub struct Request {
     pub values: [u16; FIELDS],
 }
 
-// Refusal 9: the first field whose value is over its maximum, or FIELDS.
-pub fn field_fault(maxima: &[u16], values: &[u16; FIELDS]) -> usize
-    requires { ⌜ fields ≤ length (now maxima) ⌝ }
-    ensures { λ r. ⌜ r ≡ fieldFault (value (now (maxima .entry))) (now (values .entry)) ⌝ }
+// Refusal 9: the first field, from a given one on, whose value is over its maximum, or FIELDS.
+pub fn field_fault(maxima: &[u16], values: &[u16; FIELDS], from: usize) -> usize
+    requires { ⌜ (fields ≤ length (now maxima)) × (from ≤ fields) ⌝ }
+    ensures { λ r. ⌜ r ≡ fieldFault (value (now (maxima .entry))) (now (values .entry)) from ⌝ }
 {
-    let mut field = 0;
+    let mut field = from;
     while field < FIELDS {
         if maxima[field] < values[field] {
             return field;

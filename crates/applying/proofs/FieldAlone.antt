@@ -14,7 +14,8 @@ use Rattle.table.specs.Layout.{span, low, high, count}
 use Rattle.table.specs.Tree.{endOf}
 use Rattle.table.specs.WellFormed.{WellFormed}
 use Rattle.ruling.specs.Targets.{inRange}
-use Rattle.ruling.proofs.Throughout.{PassAbove, throughout-under, throughout-is, pass-root, pass-child, pass-after}
+use Rattle.ruling.specs.Walk.{HoldAbove}
+use Rattle.ruling.proofs.Throughout.{throughout-under, throughout-is, pass-root, pass-down, pass-after}
 use Rattle.sets.specs.Sets.{has, Has}
 use Rattle.sets.specs.declared.Set.{Set}
 use Rattle.applying.specs.Members.{rangeHolds, appliesIn, member}
@@ -25,7 +26,7 @@ module _ (t : List ℕ) (f v : ℕ) where
   range-tested i l h b el eh e = e ∙ ap₂ (λ x y. inRange x y v) el eh
 
   -- where every range above a node holds, it applies in the field where its own does
-  applies-is : (i : ℕ) → PassAbove t (rangeHolds t f v) i → 1 ≤ span t i → appliesIn t f v i ≡ rangeHolds t f v i
+  applies-is : (i : ℕ) → HoldAbove t (rangeHolds t f v) i → 1 ≤ span t i → appliesIn t f v i ≡ rangeHolds t f v i
   unfolding appliesIn
   applies-is = throughout-is t (rangeHolds t f v)
 
@@ -35,12 +36,12 @@ module _ (t : List ℕ) (f v : ℕ) where
   applies-under = throughout-under t (rangeHolds t f v)
 
   -- of the nodes below i, those that apply in the field are in the set; and the ranges above node i hold
-  pub record Walked (s : Set) (i : ℕ) : Type 0 where
+  pub record MembersBelow (s : Set) (i : ℕ) : Type 0 where
     pub inside : i ≤ count t
-    pub above : PassAbove t (rangeHolds t f v) i
+    pub above : HoldAbove t (rangeHolds t f v) i
     pub sofar : Has s (λ j. ltb j i && appliesIn t f v j)
 
-  pub walk-starts : (s : Set) → Has s (λ j. false) → Walked s 0
+  pub walk-starts : (s : Set) → Has s (λ j. false) → MembersBelow s 0
   walk-starts s e =
       record {
         inside = omega arith;
@@ -49,18 +50,18 @@ module _ (t : List ℕ) (f v : ℕ) where
       }
 
   -- the walk is over
-  pub walk-ends : (s : Set) (i : ℕ) → count t ≤ i → Walked s i → Has s (member t f v)
+  pub walk-ends : (s : Set) (i : ℕ) → count t ≤ i → MembersBelow s i → Has s (member t f v)
   walk-ends s i l w j =
       let z : i ≡ count t = omega (arith, w .inside) in
       w .sofar j ∙ ap (λ n. ltb j n && appliesIn t f v j) z
 
   module _ (wf : WellFormed t) (i : ℕ) (l : i < count t) where
     -- the range of node i holds: it is put in
-    pub node-in : (s r : Set) → rangeHolds t f v i ≡ true → Has r (λ j. has s j || eqb i j) → Walked s i → Walked r (i + 1)
+    pub node-in : (s r : Set) → rangeHolds t f v i ≡ true → Has r (λ j. has s j || eqb i j) → MembersBelow s i → MembersBelow r (i + 1)
     node-in s r e p w =
         record {
           inside = omega arith;
-          above = pass-child t (rangeHolds t f v) i e (w .above);
+          above = pass-down t (rangeHolds t f v) i (throughout-is t (rangeHolds t f v) i (w .above) (wf .spans i l) ∙ e);
           sofar = λ j. p j ∙ ap (λ b. b || eqb i j) (w .sofar j) ∙ more j;
         }
       where
@@ -82,7 +83,7 @@ module _ (t : List ℕ) (f v : ℕ) where
             (lt-or-ge j i)
 
     -- it fails: the node is passed over with all nodes under it
-    pub nodes-out : (s : Set) (n : ℕ) → rangeHolds t f v i ≡ false → n ≡ endOf t i → Walked s i → Walked s n
+    pub nodes-out : (s : Set) (n : ℕ) → rangeHolds t f v i ≡ false → n ≡ endOf t i → MembersBelow s i → MembersBelow s n
     nodes-out s n e z w =
         rw z
         (record {

@@ -9,14 +9,14 @@ use native.Mathlib.Nat.{eq-or-lt-of-le}
 use native.Mathlib.Omega.{arith}
 use borrow.Author.Tests.{eqb-true, eqb-false}
 use lib.Dec.{eqb}
-use lib.ListN.{length, getD, set, length-set}
+use lib.ListN.{length, getD, drop, set, length-set}
 use lib.Seq.{getD-set-same, getD-set-other}
 use Rattle.answer.specs.Fields.{fields}
 use Rattle.table.specs.Layout.{maximum}
 use Rattle.sets.specs.Sets.{Has}
 use Rattle.sets.specs.declared.Set.{Set}
 use Rattle.applying.specs.Members.{member}
-use Rattle.applying.specs.Filled.{setAt, thirdAt, Runs, FieldFilled, ValuesFilled, Rows, FilledBelow, Filled}
+use Rattle.applying.specs.Filled.{setAt, thirdAt, Runs, KeptPastMaximum, FieldFilled, ValuesFilled, SetRows, FilledBelow, Filled, KeptPastMaxima}
 
 -- the sets of the values below v are in the row, each value as a run of its own
 pub record ValuesBelow (t : List ℕ) (f : ℕ) (row : List (List ℕ)) (v : ℕ) : Type 0 where
@@ -60,17 +60,19 @@ module _ (t : List ℕ) (f : ℕ) (row : List (List ℕ)) where
         runs = subst (λ n. Runs n marked) e r;
       }
 
--- the rows before field f have their sets, and there is a row for each field
-pub record FieldsBelow (t : List ℕ) (rows : List (List (List ℕ))) (f : ℕ) : Type 0 where
-  pub rowed : Rows rows
+-- the rows before field f have their sets, and there is a row for each field, as it was past the field's maximum
+pub record FieldsBelow (t : List ℕ) (before rows : List (List (List ℕ))) (f : ℕ) : Type 0 where
+  pub rowed : SetRows rows
   pub filled : FilledBelow t f rows
+  pub past : KeptPastMaxima t before rows
 
-module _ (t : List ℕ) (rows : List (List (List ℕ))) where
-  pub no-field : Rows rows → FieldsBelow t rows 0
-  no-field r = record { rowed = r; filled = λ g l. absurd (omega arith) }
+module _ (t : List ℕ) (before rows : List (List (List ℕ))) where
+  pub no-field : SetRows rows → FieldsBelow t rows rows 0
+  no-field r = record { rowed = r; filled = λ g l. absurd (omega arith); past = λ g l. refl }
 
-  pub one-field : (f : ℕ) (row : List (List ℕ)) → f < fields → FieldFilled t f row → FieldsBelow t rows f → FieldsBelow t (set rows f row) (f + 1)
-  one-field f row l h w =
+  pub one-field : (f : ℕ) (row : List (List ℕ)) → f < fields → FieldFilled t f row → KeptPastMaximum (maximum t f) (getD rows f []) row →
+      FieldsBelow t before rows f → FieldsBelow t before (set rows f row) (f + 1)
+  one-field f row l h k w =
       record {
         rowed = record {
           number = length-set rows f row ∙ w .rowed .number;
@@ -81,6 +83,7 @@ module _ (t : List ℕ) (rows : List (List (List ℕ))) where
             (λ (z : g ≡ f). subst (FieldFilled t g) (sym (at g z)) (subst (λ k. FieldFilled t k row) (sym z) h))
             (λ (z : g < f). subst (FieldFilled t g) (sym (getD-set-other rows f g row [] (λ q. omega arith))) (w .filled g z))
             (eq-or-lt-of-le (omega arith));
+        past = λ g lg. past-at g (eqb g f) refl ∙ w .past g lg;
       }
     where
       at : (g : ℕ) → g ≡ f → getD (set rows f row) g [] ≡ row
@@ -90,5 +93,11 @@ module _ (t : List ℕ) (rows : List (List (List ℕ))) where
       long-at g lg true z = ap length (at g (eqb-true g f z)) ∙ h .long
       long-at g lg false z = ap length (getD-set-other rows f g row [] (eqb-false g f z)) ∙ w .rowed .long g lg
 
-  pub all-fields : (f : ℕ) → fields ≤ f → FieldsBelow t rows f → Filled t rows
-  all-fields f l w g lg = w .filled g (omega arith)
+      past-at : (g : ℕ) (b : Bool) → eqb g f ≡ b → KeptPastMaximum (maximum t g) (getD rows g []) (getD (set rows f row) g [])
+      past-at g true z =
+          let e = eqb-true g f z in
+          ap (drop (maximum t g + 1)) (at g e) ∙ subst (λ i. KeptPastMaximum (maximum t i) (getD rows i []) row) (sym e) k
+      past-at g false z = ap (drop (maximum t g + 1)) (getD-set-other rows f g row [] (eqb-false g f z))
+
+  pub all-fields : (f : ℕ) → fields ≤ f → FieldsBelow t before rows f → Filled t rows × KeptPastMaxima t before rows
+  all-fields f l w = (λ g lg. w .filled g (omega arith), w .past)

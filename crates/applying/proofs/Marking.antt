@@ -10,11 +10,11 @@ use native.Mathlib.Omega.{arith}
 use borrow.Author.Tests.{lt-ltb, le-ltb, eqb-true, eqb-false}
 use lib.Dec.{eqb, ltb}
 use lib.ListN.{length, getD, set, length-set}
-use lib.Seq.{getD-set-same, getD-set-other}
+use lib.Seq.{getD-set-same, getD-set-other, drop-set-lt}
 use Rattle.sets.specs.Sets.{same}
 use Rattle.sets.specs.declared.Set.{Set}
 use Rattle.sets.proofs.SetNumbers.{same-equal}
-use Rattle.applying.specs.Filled.{setAt, thirdAt, runEnd, Runs}
+use Rattle.applying.specs.Filled.{setAt, thirdAt, runEnd, Runs, KeptPastMaximum}
 
 -- where a run ends, as the code tests it
 pub ends-here : (third v : ℕ) → third < v → v ≡ cond (ltb third v) v third
@@ -32,6 +32,7 @@ pub record Marked (most : ℕ) (row₀ row : List (List ℕ)) (s v : ℕ) : Type
   pub alone : (u : ℕ) → v ≤ u → u ≤ most → thirdAt row u ≡ u
   pub runs : (w u : ℕ) → w < v → w ≤ u → u ≤ runEnd row w → (u < v) × (setAt row u ≡ setAt row w)
   pub last : (u : ℕ) → s ≤ u → u < v → setAt row u ≡ setAt row s
+  pub past : KeptPastMaximum most row₀ row
 
 module _ (most : ℕ) (row₀ : List (List ℕ)) where
   -- a value that is a run of its own has no other in it
@@ -50,6 +51,7 @@ module _ (most : ℕ) (row₀ : List (List ℕ)) where
         alone = λ u a b. e u b;
         runs = λ w u a b c. own row₀ 1 w u (e w (omega arith)) a b c;
         last = λ u a b. let z : u ≡ 0 = omega arith in ap (setAt row₀) z;
+        past = refl;
       }
 
   pub marked-all : (row : List (List ℕ)) (s v : ℕ) → most < v → Marked most row₀ row s v → Runs most row
@@ -73,6 +75,7 @@ module _ (most : ℕ) (row₀ : List (List ℕ)) where
               (λ (z : w < v). let r = m .runs w u z b c in (omega (arith, r .0), r .1))
               (eq-or-lt-of-le (omega arith));
           last = λ u a b. let z : u ≡ v = omega arith in ap (setAt row) z;
+          past = m .past;
         }
 
     -- value v has the set of the run before it: the run goes on with it
@@ -87,6 +90,7 @@ module _ (most : ℕ) (row₀ : List (List ℕ)) where
             alone = λ u a b. third u (λ q. omega (arith, m .below)) ∙ m .alone u (omega arith) b;
             runs = λ w u a b c. runs-at w u a b c (eqb w s) refl;
             last = λ u a b. keeps u ∙ upto u a b ∙ sym (keeps s);
+            past = drop-set-lt (most + 1) row s next (omega (arith, m .below)) ∙ m .past;
           }
         where
           next : List ℕ

@@ -3,9 +3,9 @@
 use mathlib.Core.Bool.{cond}
 use mathlib.Core.List.{List, []}
 use mathlib.Core.Path.{_≡_}
-use Prim.Native.Nat.{ℕ, _≤_, _<_}
+use Prim.Native.Nat.{ℕ, _+_, _≤_, _<_}
 use lib.Dec.{ltb}
-use lib.ListN.{length, getD}
+use lib.ListN.{length, getD, drop}
 use Rattle.answer.specs.Fields.{fields}
 use Rattle.sets.specs.Sets.{Has}
 use Rattle.sets.specs.declared.Set.{Set}
@@ -24,9 +24,13 @@ thirdAt row v = getD (getD row v []) 2 0
 abbrev pub runEnd : List (List ℕ) → ℕ → ℕ
 runEnd row v = cond (ltb (thirdAt row v) v) v (thirdAt row v)
 
--- the values of a run have one set, and lie within the maximum m
+-- the values of a run have one set, and lie within the maximum m; how many of the next values with that set a run takes in is free
 abbrev pub Runs : ℕ → List (List ℕ) → Type 0
 Runs m row = (v u : ℕ) → v ≤ m → v ≤ u → u ≤ runEnd row v → (u ≤ m) × (setAt row u ≡ setAt row v)
+
+-- what stands past the maximum m is as it was
+abbrev pub KeptPastMaximum : ℕ → List (List ℕ) → List (List ℕ) → Type 0
+KeptPastMaximum m before row = drop (m + 1) row ≡ drop (m + 1) before
 
 -- a row has the set of each value of field f, and runs of values that have the same
 pub record FieldFilled (t : List ℕ) (f : ℕ) (row : List (List ℕ)) : Type 0 where
@@ -41,7 +45,7 @@ pub record ValuesFilled (t : List ℕ) (f : ℕ) (row : List (List ℕ)) : Type 
   pub alone : (v : ℕ) → v ≤ maximum t f → thirdAt row v ≡ v
 
 -- there is a row for each field, with a set for each of 256 values
-pub record Rows (rows : List (List (List ℕ))) : Type 0 where
+pub record SetRows (rows : List (List (List ℕ))) : Type 0 where
   pub number : length rows ≡ fields
   pub long : (f : ℕ) → f < fields → length (getD rows f []) ≡ 256
 
@@ -52,3 +56,7 @@ FilledBelow t n rows = (f : ℕ) → f < n → FieldFilled t f (getD rows f [])
 -- every row has
 abbrev pub Filled : List ℕ → List (List (List ℕ)) → Type 0
 Filled t rows = FilledBelow t fields rows
+
+-- what stands past the maximum of each field is as it was
+abbrev pub KeptPastMaxima : List ℕ → List (List (List ℕ)) → List (List (List ℕ)) → Type 0
+KeptPastMaxima t before rows = (f : ℕ) → f < fields → KeptPastMaximum (maximum t f) (getD before f []) (getD rows f [])

@@ -8,21 +8,21 @@ use table::layout::low_at;
 use table::layout::maximum_at;
 use table::layout::span_at;
 ghost use mathlib.Core.Path.{_≡_};
-ghost use Prim.Native.Nat.{ℕ, _+_, _≤_, _<_};
+ghost use Prim.Native.Nat.{ℕ, _≤_, _<_};
 ghost use lib.ListN.{length};
 ghost use Rattle.answer.specs.Fields.{fields};
 ghost use Rattle.sets.specs.Sets.{Has};
 ghost use Rattle.table.specs.WellFormed.{WellFormed};
-ghost use Rattle.table.specs.Layout.{start};
+ghost use Rattle.table.specs.Layout.{maximum, NodeHeld};
 ghost use Rattle.applying.specs.Members.{rangeHolds, member};
-ghost use Rattle.applying.specs.Filled.{setAt, thirdAt, runEnd, Runs, FieldFilled, ValuesFilled, Rows, Filled};
+ghost use Rattle.applying.specs.Filled.{setAt, thirdAt, runEnd, Runs, KeptPastMaximum, FieldFilled, ValuesFilled, SetRows, Filled, KeptPastMaxima};
 
 // How many values a field may have.
 pub const VALUES: usize = 256;
 
 // Whether a value lies in node i's range of a field.
 fn holds(table: &[u8], field: usize, value: u8, i: usize) -> bool
-    requires { ⌜ (start (i + 1) ≤ length (now table)) × (field < fields) ⌝ }
+    requires { ⌜ NodeHeld (now table) i × (field < fields) ⌝ }
     ensures { λ r. ⌜ r ≡ rangeHolds (now (table .entry)) field value i ⌝ }
 {
     let low = low_at(table, i, field);
@@ -56,6 +56,7 @@ fn fill_values(table: &[u8], field: usize, row: &mut [[u64; 3]; VALUES])
     requires { ⌜ field < fields ⌝ }
     requires { ⌜ length (now row) ≡ 256 ⌝ }
     ensures { λ _. ⌜ ValuesFilled (now (table .entry)) field (now (row .exit)) ⌝ }
+    ensures { λ _. ⌜ KeptPastMaximum (maximum (now (table .entry)) field) (now (row .entry)) (now (row .exit)) ⌝ }
 {
     let most = maximum_at(table, field) as usize;
     let mut value: usize = 0;
@@ -73,6 +74,7 @@ fn mark_runs(row: &mut [[u64; 3]; VALUES], most: usize)
     ensures { λ _. ⌜ length (now (row .exit)) ≡ 256 ⌝ }
     ensures { λ _. ⌜ ((v : ℕ) → setAt (now (row .exit)) v ≡ setAt (now (row .entry)) v) ⌝ }
     ensures { λ _. ⌜ Runs most (now (row .exit)) ⌝ }
+    ensures { λ _. ⌜ KeptPastMaximum most (now (row .entry)) (now (row .exit)) ⌝ }
 {
     let mut start: usize = 0;
     let mut value: usize = 1;
@@ -94,6 +96,7 @@ fn fill_field(table: &[u8], field: usize, row: &mut [[u64; 3]; VALUES])
     requires { ⌜ field < fields ⌝ }
     requires { ⌜ length (now row) ≡ 256 ⌝ }
     ensures { λ _. ⌜ FieldFilled (now (table .entry)) field (now (row .exit)) ⌝ }
+    ensures { λ _. ⌜ KeptPastMaximum (maximum (now (table .entry)) field) (now (row .entry)) (now (row .exit)) ⌝ }
 {
     fill_values(table, field, row);
     mark_runs(row, maximum_at(table, field) as usize);
@@ -102,8 +105,9 @@ fn fill_field(table: &[u8], field: usize, row: &mut [[u64; 3]; VALUES])
 // The sets of all fields.
 pub fn fill(table: &[u8], rows: &mut [[[u64; 3]; VALUES]; FIELDS])
     requires { ⌜ WellFormed (now table) ⌝ }
-    requires { ⌜ Rows (now rows) ⌝ }
+    requires { ⌜ SetRows (now rows) ⌝ }
     ensures { λ _. ⌜ Filled (now (table .entry)) (now (rows .exit)) ⌝ }
+    ensures { λ _. ⌜ KeptPastMaxima (now (table .entry)) (now (rows .entry)) (now (rows .exit)) ⌝ }
 {
     let mut field = 0;
     while field < FIELDS {

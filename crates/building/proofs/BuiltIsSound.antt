@@ -8,7 +8,7 @@ use lib.ListN.{length}
 use Rattle.answer.specs.Fields.{fields}
 use Rattle.table.specs.Layout.{Bytes, maxima}
 use Rattle.table.specs.Reading.{Accepted}
-use Rattle.table.proofs.Maxima.{accepted-maxima, maxima-bytes}
+use Rattle.table.proofs.Maxima.{maxima-length, maxima-bytes}
 use Rattle.ruling.specs.Targets.{applies}
 use Rattle.ruling.specs.Ruling.{groups}
 use Rattle.ruling.proofs.DecisionIsOneOfFour.{meaning-below}
@@ -31,6 +31,6 @@ groups-holdable t q c =
 -- whatever follows the diagram in the slice
 pub built-is-sound : (t tail : List ℕ) → Bytes t → Accepted t → length (diagramOf t) ≤ mostPlaces → Sound fields (diagramOf t ++ tail)
 built-is-sound t tail b c most =
-    let all = accepted-maxima t c in
+    let all = maxima-length t in
     subst (λ k. Sound k (diagramOf t ++ tail)) all
     (diagram-is-sound (maxima t) (groups t) tail (omega arith) (λ i l. maxima-bytes t b i (omega arith)) (λ q w. groups-holdable t q c) most)

@@ -1,4 +1,4 @@
--- A request is within an accepted table's fields exactly where it is within its list of maxima.
+-- A request is within a table's fields exactly where it is within its list of maxima.
 -- Assumes nothing.
 use mathlib.Core.Path.{_≡_, sym, _∙_}
 use mathlib.Core.Logic.{_↔_}
@@ -9,15 +9,14 @@ use lib.ListN.{length}
 use Rattle.answer.specs.Fields.{fields}
 use Rattle.answer.specs.Requests.{Within}
 use Rattle.table.specs.Layout.{maximum, maxima}
-use Rattle.table.specs.Reading.{Accepted}
-use Rattle.table.proofs.Maxima.{accepted-maxima, maxima-each}
+use Rattle.table.proofs.Maxima.{maxima-length, maxima-each}
 use Rattle.diagram.specs.Walk.{WithinMaxima}
 use Rattle.diagram.proofs.WithinAsWalked.{within-length, within-each, each-within}
 
 -- both ways
-pub within-maxima : (t q : List ℕ) → Accepted t → ((length q ≡ fields) × Within (maximum t) q) ↔ WithinMaxima (maxima t) q
-within-maxima t q c =
-    let all : length (maxima t) ≡ fields = accepted-maxima t c in (
+pub within-maxima : (t q : List ℕ) → ((length q ≡ fields) × Within (maximum t) q) ↔ WithinMaxima (maxima t) q
+within-maxima t q =
+    let all : length (maxima t) ≡ fields = maxima-length t in (
       λ w. each-within (maxima t) q (w .0 ∙ sym all) (λ i l. omega (arith, w .1 i (omega arith), maxima-each t i (omega arith))),
       λ w. (within-length (maxima t) q w ∙ all, λ f l. omega (arith, within-each (maxima t) q w f (omega arith), maxima-each t f l)),
     )

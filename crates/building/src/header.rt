@@ -7,12 +7,12 @@ ghost use Prim.Native.Nat.{_≤_};
 ghost use lib.ListN.{length};
 ghost use lib.Seq.{sets};
 ghost use Rattle.answer.specs.Fields.{fields};
-ghost use Rattle.table.specs.Layout.{maxima, header};
+ghost use Rattle.table.specs.Layout.{maxima, HeaderHeld};
 ghost use Rattle.diagram.specs.Layout;
 
 // The places used, the place of the root and the maxima, to the start of a diagram.
 pub(crate) fn write_header(diagram: &mut [u16], used: u16, root: u16, table: &[u8])
-    requires { ⌜ header ≤ length (now table) ⌝ }
+    requires { ⌜ HeaderHeld (now table) ⌝ }
     requires { ⌜ Rattle.diagram.specs.Layout.header fields ≤ length (now diagram) ⌝ }
     ensures { λ _. ⌜ now (diagram .exit) ≡ sets (now (diagram .entry)) 0 (used ∷ root ∷ maxima (now (table .entry))) ⌝ }
 {

@@ -34,8 +34,10 @@ ghost use Rattle.applying.specs.Filled.{Filled};
 ghost use Rattle.diagram.specs.Layout.{header, mostPlaces};
 ghost use Rattle.diagram.specs.Entries.{terminal};
 ghost use Rattle.diagram.specs.Walk.{Entries, enter};
-ghost use Rattle.entering.specs.Laid.{Laid, Room, Standing};
-ghost use Rattle.building.specs.Walked.{Held, Near, Walked, Rows, Kept, WalkedAll};
+ghost use Rattle.entering.specs.Laid.{Laid, Room, Bounded, Standing};
+ghost use Rattle.entering.specs.Edges.{EdgeRows, EdgesKept};
+ghost use Rattle.entering.specs.Walking.{Held, Walks};
+ghost use Rattle.building.specs.Walked.{walkBy, Remembers, RemembersNear, AllWalked};
 
 // Enters the terminal of what the groups give where the nodes of a set apply.
 fn enter_ruling(
@@ -47,7 +49,7 @@ fn enter_ruling(
 ) -> Step
     requires { ⌜ WellFormed (now table) × Closed (now table) (has applying) ⌝ }
     requires { ⌜ Room (length (now diagram)) end ⌝ }
-    ensures { λ r. ⌜ Room (length (now (diagram .entry))) (r .end) × (r .place < mostPlaces) ⌝ }
+    ensures { λ r. ⌜ Bounded (now (diagram .entry)) (now (index .entry)) end (now (diagram .exit)) (now (index .exit)) (r .full) (r .end) (r .place) ⌝ }
     ensures { λ r. ⌜ ((es : Entries) → Laid es (now (diagram .entry)) (now (index .entry)) end → Standing (enter (header fields) es (terminal (meaning (has applying) (now (table .entry))))) (length (now (diagram .entry))) (now (diagram .exit)) (now (index .exit)) (r .full) (r .end) (r .place)) ⌝ }
 {
     let mut cards = [0u16; MOST_CARDS];
@@ -72,9 +74,9 @@ fn walk_once(
 ) -> Step
     requires { ⌜ WellFormed (now table) × Filled (now table) (now sets) × Closed (now table) (has possible) ⌝ }
     requires { ⌜ Room (length (now diagram)) end × (field ≤ fields) × (near .place < mostPlaces) ⌝ }
-    requires { ⌜ Rows (now last) × Rows (now child) ⌝ }
-    ensures { λ r. ⌜ Walked (now (table .entry)) (λ es. Held (now (table .entry)) es (now (diagram .entry)) (now (index .entry)) (now (seen .entry)) end × Near (now (table .entry)) field es near) field possible (length (now (diagram .entry))) (now (diagram .exit)) (now (index .exit)) (now (seen .exit)) (r .full) (r .end) (r .place) ⌝ }
-    ensures { λ r. ⌜ Kept field (now (last .entry)) (now (last .exit)) × Kept field (now (child .entry)) (now (child .exit)) ⌝ }
+    requires { ⌜ EdgeRows (now last) × EdgeRows (now child) ⌝ }
+    ensures { λ r. ⌜ Walks (walkBy (now (table .entry)) field (has possible)) (Held (RemembersNear (now (table .entry)) (now (seen .entry)) field near) (now (diagram .entry)) (now (index .entry)) end) (Remembers (now (table .entry)) (now (seen .exit))) (length (now (diagram .entry))) (now (diagram .exit)) (now (index .exit)) (r .full) (r .end) (r .place) ⌝ }
+    ensures { λ r. ⌜ EdgesKept field (now (last .entry)) (now (last .exit)) × EdgesKept field (now (child .entry)) (now (child .exit)) ⌝ }
 {
     if is_known(near, possible) {
         return Step {
@@ -127,9 +129,9 @@ fn walk(
 ) -> Step
     requires { ⌜ WellFormed (now table) × Filled (now table) (now sets) × Closed (now table) (has possible) ⌝ }
     requires { ⌜ Room (length (now diagram)) end × (field ≤ fields) ⌝ }
-    requires { ⌜ Rows (now last) × Rows (now child) ⌝ }
-    ensures { λ r. ⌜ Walked (now (table .entry)) (λ es. Held (now (table .entry)) es (now (diagram .entry)) (now (index .entry)) (now (seen .entry)) end) field possible (length (now (diagram .entry))) (now (diagram .exit)) (now (index .exit)) (now (seen .exit)) (r .full) (r .end) (r .place) ⌝ }
-    ensures { λ r. ⌜ Kept field (now (last .entry)) (now (last .exit)) × Kept field (now (child .entry)) (now (child .exit)) ⌝ }
+    requires { ⌜ EdgeRows (now last) × EdgeRows (now child) ⌝ }
+    ensures { λ r. ⌜ Walks (walkBy (now (table .entry)) field (has possible)) (Held (Remembers (now (table .entry)) (now (seen .entry))) (now (diagram .entry)) (now (index .entry)) end) (Remembers (now (table .entry)) (now (seen .exit))) (length (now (diagram .entry))) (now (diagram .exit)) (now (index .exit)) (r .full) (r .end) (r .place) ⌝ }
+    ensures { λ r. ⌜ EdgesKept field (now (last .entry)) (now (last .exit)) × EdgesKept field (now (child .entry)) (now (child .exit)) ⌝ }
 {
     if field == FIELDS {
         return enter_ruling(table, possible, diagram, end, index);
@@ -189,7 +191,7 @@ pub(crate) fn walk_all(table: &[u8], diagram: &mut [u16]) -> Step
     requires { ⌜ WellFormed (now table) ⌝ }
     requires { ⌜ Room (length (now diagram)) (header fields) ⌝ }
     requires { ⌜ now diagram ≡ zeros (length (now diagram)) ⌝ }
-    ensures { λ r. ⌜ WalkedAll (now (table .entry)) (length (now (diagram .entry))) (now (diagram .exit)) (r .full) (r .end) (r .place) ⌝ }
+    ensures { λ r. ⌜ AllWalked (now (table .entry)) (length (now (diagram .entry))) (now (diagram .exit)) (r .full) (r .end) (r .place) ⌝ }
 {
     let mut sets = [[[0u64; 3]; VALUES]; FIELDS];
     fill(table, &mut sets);

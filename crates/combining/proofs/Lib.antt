@@ -1,4 +1,3 @@
 -- What other crates' proofs cite.
 pub mod Table
 pub mod Fold
-pub mod Steady

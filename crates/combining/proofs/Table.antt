@@ -7,7 +7,7 @@ use Prim.Native.Nat.{ℕ, zero, suc, _<_}
 use native.Mathlib.Nat.{le-of-suc-le-suc, not-suc-le-zero}
 use lib.Dec.{T, eqb, eqb→eq, ltb, ltb→lt}
 use lib.ListN.{getD}
-use Rattle.combining.specs.Ways.{step}
+use Rattle.combining.specs.Ways.{heard, step}
 
 -- the test f passes at each number below n
 abbrev pub below : ℕ → (ℕ → Bool) → Bool
@@ -41,10 +41,11 @@ entry t k r c = getD (getD (getD t k []) r []) c 0
 
 -- the test of a table's entry: it is the step of its place, and a decision
 abbrev pub correct : List (List (List ℕ)) → ℕ → ℕ → ℕ → Bool
-correct t k r c = eqb (entry t k r c) (step k r c) && ltb (entry t k r c) 4
+correct t k r c = eqb (entry t k r c) (step k (heard r) (heard c)) && ltb (entry t k r c) 4
 
 both : (e s n : ℕ) → T (eqb e s && ltb e n) → (e ≡ s) × (e < n)
 both e s n t = (eqb→eq e s (left (eqb e s) (ltb e n) t), ltb→lt e n (right (eqb e s) (ltb e n) t))
 
-pub rule : (t : List (List (List ℕ))) → T (everywhere (correct t)) → (k r c : ℕ) → k < 4 → r < 4 → c < 4 → (entry t k r c ≡ step k r c) × (entry t k r c < 4)
-rule t ok k r c hk hr hc = both (entry t k r c) (step k r c) 4 (passes (correct t) ok k r c hk hr hc)
+pub rule : (t : List (List (List ℕ))) → T (everywhere (correct t)) → {b k : ℕ} → b ≡ k → (r c : ℕ) → k < 4 → r < 4 → c < 4 →
+    (entry t b r c ≡ step k (heard r) (heard c)) × (entry t b r c < 4)
+rule t ok {b} {k} e r c hk hr hc = rw e (both (entry t k r c) (step k (heard r) (heard c)) 4 (passes (correct t) ok k r c hk hr hc))

@@ -1,10 +1,11 @@
--- How a group combines its children's decisions, as document 01 words it under "How a table rules": over the list of these decisions, in order.
+-- How a group combines its children, as document 01 words it under "How a table rules": over the list of these, in order.
 -- Assumes nothing: these are definitions.
-use mathlib.Core.Bool.{Bool, false, cond, _||_}
+use mathlib.Core.Bool.{Bool, false, not, cond, _||_}
 use mathlib.Core.List.{List, [], _∷_}
-use Prim.Native.Nat.{ℕ, _<_}
+use Prim.Native.Nat.{ℕ}
 use lib.Dec.{eqb}
 use lib.ListN.{getD}
+use Rattle.combining.specs.Kinds.{firstApplicableKind, onlyOneApplicableKind, permitOverridesKind}
 
 -- "The four decisions are 0 none, [..] (NotApplicable, [..])"
 abbrev pub notApplicable : ℕ
@@ -22,6 +23,25 @@ deny = 2
 abbrev pub indeterminate : ℕ
 indeterminate = 3
 
+-- A child of a group: its decision, and whether it counts under "only one".
+pub record Child : Type 0 where
+  pub decision : ℕ
+  pub counts : Bool
+
+-- "if exactly one child gives something": a child of this decision, which counts where that isn't none
+abbrev pub heard : ℕ → Child
+heard d = record { decision = d; counts = not (eqb d notApplicable) }
+
+-- the decisions of children
+abbrev pub decisions : List Child → List ℕ
+decisions [] = []
+decisions (c ∷ cs) = c .decision ∷ decisions cs
+
+-- the decisions of those that count
+abbrev pub counting : List Child → List ℕ
+counting [] = []
+counting (c ∷ cs) = cond (c .counts) (c .decision ∷ counting cs) (counting cs)
+
 -- "child decision that isn't none": all of these, in order
 abbrev pub applicable : List ℕ → List ℕ
 applicable [] = []
@@ -38,8 +58,8 @@ sole (d ∷ []) = d
 sole (d ∷ e ∷ ds) = indeterminate
 
 -- "Only one: none if every child gives none; the one decision if exactly one child gives something; unclear if two or more do."
-abbrev pub onlyOneApplicable : List ℕ → ℕ
-onlyOneApplicable ds = sole (applicable ds)
+abbrev pub onlyOneApplicable : List Child → ℕ
+onlyOneApplicable cs = sole (counting cs)
 
 -- "if any child gives": some decision passes the test
 abbrev pub any : (ℕ → Bool) → List ℕ → Bool
@@ -62,23 +82,18 @@ denyOverrides ds =
     notApplicable)
 
 -- "Kinds 0 to 3 are groups: 0 first, 1 only one, 2 may beats, 3 may not beats." Asked of these kinds alone.
-abbrev pub way : ℕ → List ℕ → ℕ
-way k ds =
-    cond (eqb k 0) (firstApplicable ds)
-    (cond (eqb k 1) (onlyOneApplicable ds)
-    (cond (eqb k 2) (permitOverrides ds)
-    (denyOverrides ds)))
+abbrev pub way : ℕ → List Child → ℕ
+way k cs =
+    cond (eqb k firstApplicableKind) (firstApplicable (decisions cs))
+    (cond (eqb k onlyOneApplicableKind) (onlyOneApplicable cs)
+    (cond (eqb k permitOverridesKind) (permitOverrides (decisions cs))
+    (denyOverrides (decisions cs))))
 
 -- "The four ways are kept as one constant table, indexed by group kind, running decision and child decision": the way of these two
-abbrev pub step : ℕ → ℕ → ℕ → ℕ
+abbrev pub step : ℕ → Child → Child → ℕ
 step k r c = way k (r ∷ c ∷ [])
 
 -- "A running decision [..] takes in one child after another."
-abbrev pub taken : ℕ → ℕ → List ℕ → ℕ
+abbrev pub taken : ℕ → ℕ → List Child → ℕ
 taken k r [] = r
-taken k r (d ∷ ds) = taken k (step k r d) ds
-
--- "(0 to 3 each)": each is one of the four decisions
-abbrev pub Decisions : List ℕ → Type 0
-Decisions [] = Unit {0}
-Decisions (d ∷ ds) = (d < 4) × Decisions ds
+taken k r (c ∷ cs) = taken k (step k (heard r) c) cs

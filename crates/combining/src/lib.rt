@@ -1,7 +1,8 @@
 // Decisions, kinds of nodes, and how a group combines its children's decisions.
 ghost use mathlib.Core.Path.{_≡_};
 ghost use Prim.Native.Nat.{_<_};
-ghost use Rattle.combining.specs.Ways.{notApplicable, step};
+ghost use Rattle.combining.specs.Ways.{heard, step};
+ghost use Rattle.combining.specs.Running.{Started, Takes, Taken};
 
 // The four decisions, by number.
 pub struct Decision {
@@ -47,20 +48,43 @@ impl Kind {
     pub const DENY_RULE: u8 = 5;
 }
 
+// The four decisions, short, for the table.
+const N: u8 = Decision::NOT_APPLICABLE;
+
+const P: u8 = Decision::PERMIT;
+
+const D: u8 = Decision::DENY;
+
+const I: u8 = Decision::INDETERMINATE;
+
 // The four ways of combining, by kind of group, running decision and child decision.
 const COMBINING: [[[u8; 4]; 4]; 4] = [
-    [[0, 1, 2, 3], [1, 1, 1, 1], [2, 2, 2, 2], [3, 3, 3, 3]],
-    [[0, 1, 2, 3], [1, 3, 3, 3], [2, 3, 3, 3], [3, 3, 3, 3]],
-    [[0, 1, 2, 3], [1, 1, 1, 1], [2, 1, 2, 2], [3, 1, 2, 3]],
-    [[0, 1, 2, 2], [1, 1, 2, 2], [2, 2, 2, 2], [2, 2, 2, 2]],
+    [[N, P, D, I], [P, P, P, P], [D, D, D, D], [I, I, I, I]],
+    [[N, P, D, I], [P, I, I, I], [D, I, I, I], [I, I, I, I]],
+    [[N, P, D, I], [P, P, P, P], [D, P, D, D], [I, P, D, I]],
+    [[N, P, D, D], [P, P, D, D], [D, D, D, D], [D, D, D, D]],
 ];
 
-// One entry of the table.
-fn combined(kind: usize, running: usize, child: usize) -> u8
-    requires { ⌜ (kind < 4) × (running < 4) × (child < 4) ⌝ }
-    ensures { λ r. ⌜ (r ≡ step kind running child) × (r < 4) ⌝ }
+// Where a kind of group stands in the table.
+fn block_of(kind: u8) -> usize
+    requires { ⌜ kind < 4 ⌝ }
+    ensures { λ r. ⌜ r ≡ kind ⌝ }
 {
-    COMBINING[kind][running][child]
+    match kind {
+        Kind::FIRST_APPLICABLE => 0,
+        Kind::ONLY_ONE_APPLICABLE => 1,
+        Kind::PERMIT_OVERRIDES => 2,
+        _ => 3,
+    }
+}
+
+// One entry of the table.
+fn combined(kind: u8, running: usize, child: usize) -> u8
+    requires { ⌜ (kind < 4) × (running < 4) × (child < 4) ⌝ }
+    ensures { λ r. ⌜ (r ≡ step kind (heard running) (heard child)) × (r < 4) ⌝ }
+{
+    let block = block_of(kind);
+    COMBINING[block][running][child]
 }
 
 // A group's decision so far (document 01's running decision), with the group's kind.
@@ -72,7 +96,8 @@ pub struct Running {
 impl Running {
     // Before the first child.
     pub fn start(kind: u8) -> Self
-        ensures { λ r. ⌜ (r .kind ≡ kind) × (r .decision ≡ notApplicable) ⌝ }
+        requires { ⌜ kind < 4 ⌝ }
+        ensures { λ r. ⌜ Started kind r ⌝ }
     {
         Self {
             kind,
@@ -82,12 +107,12 @@ impl Running {
 
     // With one child decision more.
     pub fn take(self, child: u8) -> Self
-        requires { ⌜ (self .kind < 4) × (self .decision < 4) × (child < 4) ⌝ }
-        ensures { λ r. ⌜ (r .kind ≡ self .kind) × (r .decision ≡ step (self .kind) (self .decision) child) × (r .decision < 4) ⌝ }
+        requires { ⌜ Takes self child ⌝ }
+        ensures { λ r. ⌜ Taken self child r ⌝ }
     {
         Self {
             kind: self.kind,
-            decision: combined(self.kind as usize, self.decision as usize, child as usize),
+            decision: combined(self.kind, self.decision as usize, child as usize),
         }
     }
 }

@@ -26,7 +26,7 @@ fn decide(table: &[u8], applying: Set, i: usize) -> u8
     requires { ⌜ WellFormed (now table) ⌝ }
     requires { ⌜ Closed (now table) (has applying) ⌝ }
     requires { ⌜ (i < count (now table)) × (has applying i ≡ true) ⌝ }
-    ensures { λ r. ⌜ (r ≡ decision (has applying) (now (table .entry)) i) × (r < 4) ⌝ }
+    ensures { λ r. ⌜ r ≡ decision (has applying) (now (table .entry)) i ⌝ }
 {
     let kind = kind_at(table, i);
     if Kind::PERMIT_RULE <= kind {

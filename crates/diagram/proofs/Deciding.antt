@@ -17,7 +17,7 @@ decides-same A true false p q = absurd (q p)
 decides-same A false true p q = absurd (p q)
 decides-same A false false p q = refl
 
--- what a test that was turned round says
+-- what `not` of a deciding test says
 pub refuted : (A : Type 0) (b : Bool) → Decides A b → not b ≡ true → A → ⊥
 refuted A b h e = subst (Decides A) (not-true b e) h
 
@@ -29,7 +29,7 @@ module _ (d : List ℕ) where
   pub sound-is : (b : Bool) → Decides (Sound fields d) b → b ≡ yes? (sound? fields d)
   sound-is b h = decides-same (Sound fields d) b (yes? (sound? fields d)) h (yes-decides (sound? fields d))
 
-  -- what the decision tells, turned round in the code
+  -- what `not` of the decision about soundness says
   pub found-unsound : (b : Bool) → b ≡ yes? (sound? fields d) → not b ≡ true → Sound fields d → ⊥
   found-unsound b e = refuted (Sound fields d) b (subst (Decides (Sound fields d)) (sym e) (yes-decides (sound? fields d)))
 

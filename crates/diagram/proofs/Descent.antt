@@ -28,6 +28,11 @@ look-up-more : (d : List ℕ) (p v : ℕ) (q : List ℕ) → lookUp d p (v ∷ q
 unfolding lookUp
 look-up-more d p v q = refl
 
+-- what looking for the edge of value v at place p asks
+abbrev pub EdgeAsked : List ℕ → ℕ → ℕ → Type 0
+EdgeAsked d p v =
+    ((p < mostPlaces) × (p + 2 + 2 * edgesAt d p ≤ length d)) × (SoundNode fields d p × (v ≤ maximum d (levelAt d p - 1)))
+
 -- f values are used up, at place p
 pub record Down (d q : List ℕ) (p f : ℕ) : Type 0 where
   pub rest : lookUp d p (drop f q) ≡ ruledBy d q
@@ -81,6 +86,9 @@ module _ (d : List ℕ) (s : Sound fields d) where
     module _ (v : ℕ) (m : v ≤ maximum d f) where
       pub value-most : v ≤ maximum d (levelAt d p - 1)
       value-most = omega (arith, maximum-here)
+
+      pub edge-asked : EdgeAsked d p v
+      edge-asked = (node-whole-here, (node-here, value-most))
 
       -- the child is an entry of the next level
       pub child-here : EntryBefore fields d (used d) (nextLevel fields (f + 1)) (child d p v)

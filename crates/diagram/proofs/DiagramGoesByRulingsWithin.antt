@@ -1,4 +1,4 @@
--- The walk, and the diagram, go by the rulings of requests within the maxima, and by nothing else of the rulings.
+-- The walk and the diagram go by the rulings of requests within the maxima alone.
 -- Assumes nothing.
 use mathlib.Core.Path.{_≡_, refl, ap}
 use mathlib.Core.List.{List, [], _∷_, _++_}
@@ -22,7 +22,7 @@ below-goes-by u w es (suc n) h =
     let o = below w es n in
     below-more u es n o (w n (o .entries)) (below-goes-by u w es n (λ v l xs. h v (omega arith) xs)) (h n (omega arith) (o .entries))
 
--- the walk, from any entries
+-- rulings that are alike within the maxima give the same walk, from any entries
 pub walk-goes-by-rulings-within : (k : ℕ) (ms : List ℕ) (f g : List ℕ → Ruling) (es : Entries) → Alike ms f g → walk k ms f es ≡ walk k ms g es
 unfolding walk
 walk-goes-by-rulings-within k [] f g es h = ap (λ r. enter (header k) es (terminal r)) (h [] tt)
@@ -31,7 +31,7 @@ walk-goes-by-rulings-within k (m ∷ ms) f g es h =
     (below-goes-by (under k ms f) (under k ms g) es (suc m)
     (λ v l xs. walk-goes-by-rulings-within k ms (given f v) (given g v) xs (λ q w. h (v ∷ q) (omega arith, w))))
 
--- the diagram
+-- rulings that are alike within the maxima give the same diagram
 pub diagram-goes-by-rulings-within : (ms : List ℕ) (f g : List ℕ → Ruling) → Alike ms f g → diagram ms f ≡ diagram ms g
 unfolding diagram
 diagram-goes-by-rulings-within ms f g h =

@@ -19,7 +19,7 @@ module _ (ms : List ℕ) (f : List ℕ → Ruling) where
   abbrev pub head : List ℕ
   head = (header (length ms) + length (joined (walked .entries))) ∷ walked .place ∷ ms
 
-  -- they are as many as a header has
+  -- the places before the entries are as many as a header has
   pub head-length : length head ≡ header (length ms)
   head-length = omega arith
 
@@ -29,7 +29,7 @@ module _ (ms : List ℕ) (f : List ℕ → Ruling) where
   diagram-maxima = take-append-seam ms (joined (walked .entries))
 
   module _ (tail : List ℕ) where
-    -- the header, the entries, and what follows
+    -- a slice that starts with the diagram is the header, the entries, and what follows
     pub diagram-splits : diagram ms f ++ tail ≡ head ++ (joined (walked .entries) ++ tail)
     unfolding diagram
     diagram-splits = append-assoc head (joined (walked .entries)) tail

@@ -18,7 +18,7 @@ top-level : (ms : List ℕ) → 1 ≤ length ms → levelOf (length ms) ms ≡ 1
 top-level [] l = absurd (omega arith)
 top-level (m ∷ ms) l = omega arith
 
--- of at least one field, with maxima of at most 255
+-- a walked diagram of at least one field, with maxima of at most 255, is sound
 pub diagram-is-sound : (ms : List ℕ) (f : List ℕ → Ruling) (tail : List ℕ) → 1 ≤ length ms → ((i : ℕ) → i < length ms → getD ms i 0 ≤ 255) →
     ((q : List ℕ) → WithinMaxima ms q → Holdable (f q)) → length (diagram ms f) ≤ mostPlaces → Sound (length ms) (diagram ms f ++ tail)
 diagram-is-sound ms f tail some maxima holdable most =

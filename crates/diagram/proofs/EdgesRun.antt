@@ -51,7 +51,7 @@ module _ (P : ℕ → ℕ → Type 0) where
   runs-child (e ∷ es) a n zero h l = h .1 (e .last) (h .0) (omega arith)
   runs-child (e ∷ es) a n (suc j) h l = runs-child es (suc (e .last)) n j (h .2) (omega arith)
 
-  -- and for each value that the edges before it end below and it does not
+  -- each edge's child is one for each value that the edges before it end below and it does not
   pub runs-value : (es : List Edge) (a n j v : ℕ) → Runs P a es n → j < length es → a ≤ v →
       ((i : ℕ) → i < j → edgeOf es i .last < v) → v ≤ edgeOf es j .last → P v (edgeOf es j .child)
   runs-value [] a n j v h l from before reaches = absurd (omega arith)

@@ -31,16 +31,16 @@ pub same-itself : (x : List ℕ) → same x x ≡ true
 same-itself [] = refl
 same-itself (n ∷ x) = ap (λ b. b && same x x) (eq-eqb n n refl) ∙ same-itself x
 
--- these entries, and this place
+-- the entries xs, with the place c of what was entered
 abbrev pub kept : Entries → ℕ → Entered
 kept xs c = record { entries = xs; place = c }
 
--- one entry first
+-- the same place, with entry x before the entries
 abbrev after : List ℕ → Entered → Entered
 after x r = kept (x ∷ r .entries) (r .place)
 
 module _ (e : List ℕ) where
-  -- the first entry is equal, or it is not
+  -- entering e where the first entry is equal to it, and where it is not
 
   pub enter-here : (p : ℕ) (x : List ℕ) (xs : Entries) → same x e ≡ true → enter p (x ∷ xs) e ≡ kept (x ∷ xs) p
   unfolding enter
@@ -74,7 +74,7 @@ module _ (e : List ℕ) where
       (λ p x xs t. inl refl)
       (λ p x xs r t h. ⊎-elim (λ a. inl (ap (λ es. x ∷ es) a)) (λ a. inr (ap (λ es. x ∷ es) a)) h)
 
-  -- the entry stands at the place given
+  -- an entry stands at the place that entering it gives
   pub enter-entry : (p : ℕ) (xs : Entries) → EntryAt p (enter p xs e .entries) (enter p xs e .place) e
   enter-entry =
       by-entering (λ p xs r. EntryAt p (r .entries) (r .place) e)
@@ -101,7 +101,7 @@ module _ (e : List ℕ) where
   pub enter-again : (p : ℕ) (xs ys : Entries) → Begins (enter p xs e .entries) ys → enter p ys e ≡ kept ys (enter p xs e .place)
   enter-again p xs ys b = subst (λ es. enter p es e ≡ kept es (enter p xs e .place)) (sym (b .1)) (enter-found p xs (b .0))
 
-  -- the entries stay, in order, and at most one follows
+  -- entering keeps the entries, in order, and adds at most one
   pub enter-begins : (p : ℕ) (xs : Entries) → Begins xs (enter p xs e .entries)
   enter-begins p xs = ⊎-elim (λ a. ([], a ∙ sym (append-nil xs))) (λ a. (e ∷ [], a)) (enter-adds p xs)
 
@@ -137,7 +137,7 @@ module _ (k : ℕ) where
   unfolding walk
   walk-node m ms f es o e = ap (λ (x : Open). enter (header k) (x .entries) (node (k - length ms) (x .edges))) e
 
-  -- the entries stay, in order, and others may follow
+  -- a walk keeps the entries, in order, and may add others
   pub walk-begins : (ms : List ℕ) (f : List ℕ → Ruling) (es : Entries) → Begins es (walk k ms f es .entries)
   unfolding walk
   walk-begins [] f es = enter-begins (terminal (f [])) (header k) es

@@ -37,7 +37,7 @@ module _ (p : ℕ) (xs : Entries) where
         ap length (append-nil (getD xs i [])),
       )
 
-  -- after the last nothing stands
+  -- the place after the last entry is that after all numbers
   pub place-end : placeOf p xs (length xs) ≡ p + length (joined xs)
   place-end = ap (λ es. p + length (joined es)) (take-length xs)
 
@@ -50,7 +50,7 @@ module _ (p : ℕ) (xs : Entries) where
       ∙ joined-append (take i xs) (getD xs i [] ∷ drop (suc i) xs)
       ∙ ap (λ x. joined (take i xs) ++ (x ++ joined (drop (suc i) xs))) (a .is)
 
-  -- an entry ends where they all end, or earlier
+  -- an entry ends where all entries end, or earlier
   pub entry-ends : (c : ℕ) (e : List ℕ) → EntryAt p xs c e → c + length e ≤ p + length (joined xs)
   entry-ends c e a =
       let before = joined (take (a .index) xs) in
@@ -79,7 +79,7 @@ module _ (p : ℕ) (xs : Entries) where
 abbrev pub Begins : Entries → Entries → Type 0
 Begins xs ys = (more : Entries) × (ys ≡ xs ++ more)
 
--- so nothing more, or more in two steps, may follow
+-- entries begin themselves, and beginning goes in two steps
 
 pub begins-itself : (xs : Entries) → Begins xs xs
 begins-itself xs = ([], sym (append-nil xs))

@@ -26,7 +26,7 @@ module _ (ms ns : List ℕ) (f g : List ℕ → Ruling) (l : length ms ≡ lengt
       ∙ ap (λ d. ruledBy (d ++ []) q) e
       ∙ look-up-gives-the-ruling ns g [] q (subst (λ l. WithinMaxima l q) (same-maxima e) w)
 
-  -- both ways
+  -- the diagrams are equal exactly where the maxima are equal and the rulings alike
   pub equal-exactly-when-alike : (diagram ms f ≡ diagram ns g) ↔ ((ms ≡ ns) × Alike ms f g)
   equal-exactly-when-alike = (
     λ e. (same-maxima e, same-rulings e),

@@ -12,17 +12,17 @@ use Rattle.diagram.specs.LookUp.{reaches, edge}
 use Rattle.diagram.specs.Decided.{lt?}
 
 module _ (d : List ℕ) (p v : ℕ) where
-  -- the edges before it end below the value
+  -- the edges before that of a value end below the value
   pub edge-before : (i : ℕ) → i < edge d p v → lastAt d p i < v
   unfolding edge
   edge-before i l = leb-false v (lastAt d p i) (first-least (reaches d p v) (edgesAt d p) 0 .1 i (omega arith) l)
 
-  -- where it is one of the node's edges, it does not
+  -- the edge of a value, where the node has it, does not end below the value
   pub edge-reaches : edge d p v < edgesAt d p → v ≤ lastAt d p (edge d p v)
   unfolding edge
   edge-reaches l = leb-true v (lastAt d p (edge d p v)) (first-passes (reaches d p v) (edgesAt d p) 0 (omega arith))
 
-  -- it is one of them, or the number of them
+  -- the edge of a value is one of the node's, or the number of them
   pub edge-most : edge d p v ≤ edgesAt d p
   unfolding edge
   edge-most =
@@ -32,7 +32,7 @@ module _ (d : List ℕ) (p v : ℕ) where
       (λ n. omega (arith, n))
       (lt? (edgesAt d p) (edge d p v))
 
-  -- an edge that does not end below the value is no earlier
+  -- an edge that does not end below the value is no earlier than the value's
   pub edge-first : (j : ℕ) → v ≤ lastAt d p j → edge d p v ≤ j
   edge-first j h =
       ⊎-elim

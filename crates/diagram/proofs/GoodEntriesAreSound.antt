@@ -150,7 +150,7 @@ module _ (k : ℕ) (before tail d : List ℕ) (xs : Entries) (splits : d ≡ bef
   end-is : at (length xs) ≡ used d
   end-is = place-end (header k) xs ∙ sym total
 
-  -- with at most 32,768 used places and maxima of at most 255
+  -- good entries, with at most 32,768 used places and maxima of at most 255, are a sound diagram
   pub good-entries-are-sound : used d ≤ mostPlaces → ((f : ℕ) → f < k → maximum d f ≤ 255) → Points k xs (root d) 1 → Sound k d
   good-entries-are-sound most maxima t =
       let long : length d ≡ header k + (length (joined xs) + length tail) =

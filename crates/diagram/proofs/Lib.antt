@@ -18,8 +18,7 @@ pub mod GoodEntriesAreSound
 pub mod DiagramIsSound
 pub mod WithinAsWalked
 pub mod Descent
-pub mod Outcome
 pub mod EveryRequestReachesATerminal
-pub mod FirstRefusalOrLookUp
+pub mod LookUpAnswers
 pub mod WalkedDiagramAnswers
 pub mod Examples

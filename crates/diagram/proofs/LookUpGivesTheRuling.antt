@@ -48,7 +48,7 @@ module _ (k : ℕ) (before tail : List ℕ) (xs : Entries) (l : length before �
       (entry-stands (header k) xs before tail c e l (h .1)) (h .2) (w .0))
       q (w .1)
 
--- whatever follows the diagram in the slice
+-- a look-up gives each request its ruling, whatever follows the diagram in the slice
 pub look-up-gives-the-ruling : (ms : List ℕ) (f : List ℕ → Ruling) (tail q : List ℕ) → WithinMaxima ms q → ruledBy (diagram ms f ++ tail) q ≡ f q
 look-up-gives-the-ruling ms f tail q w =
     ap (λ c. lookUp (diagram ms f ++ tail) c q) (diagram-root ms f tail)

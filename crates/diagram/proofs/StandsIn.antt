@@ -17,15 +17,15 @@ pub record Stands (d : List ℕ) (p : ℕ) (e : List ℕ) : Type 0 where
   pub is : drop p d ≡ e ++ rest
 
 module _ (d : List ℕ) (p : ℕ) where
-  -- each is read in its place
+  -- of numbers that stand from p on each is read in its place
   pub stands-read : (e : List ℕ) (i : ℕ) → Stands d p e → i < length e → numberAt d (p + i) ≡ numberAt e i
   stands-read e i s l = sym (getD-drop p d i 0) ∙ ap (λ x. numberAt x i) (s .is) ∙ List·getD-append e (s .rest) 0 i l
 
-  -- so is the first
+  -- the first of numbers that stand from p on is read at p
   pub stands-first : (e : List ℕ) → Stands d p e → 0 < length e → numberAt d p ≡ numberAt e 0
   stands-first e s l = let z : p ≡ p + 0 = omega arith in ap (numberAt d) z ∙ stands-read e 0 s l
 
-  -- those after the first ones stand further on
+  -- numbers after others stand further on
   pub stands-later : (x y : List ℕ) → Stands d p (x ++ y) → Stands d (p + length x) y
   stands-later x y s = record {
     rest = s .rest;
@@ -35,7 +35,7 @@ module _ (d : List ℕ) (p : ℕ) where
         ∙ drop-append-seam x (y ++ s .rest);
   }
 
-  -- they are what is taken there
+  -- numbers that stand from p on are what is taken there
   pub stands-taken : (e : List ℕ) → Stands d p e → take (length e) (drop p d) ≡ e
   stands-taken e s = ap (take (length e)) (s .is) ∙ take-append-seam e (s .rest)
 
@@ -75,7 +75,7 @@ pub edge-numbers-length : (es : List Edge) → length (edgeNumbers es) ≡ 2 * l
 edge-numbers-length [] = refl
 edge-numbers-length (e ∷ es) = omega (arith, edge-numbers-length es)
 
--- its two numbers
+-- the two numbers of edge j
 read-edge : (es : List Edge) (j : ℕ) →
     (numberAt (edgeNumbers es) (2 * j) ≡ edgeOf es j .last) × (numberAt (edgeNumbers es) (suc (2 * j)) ≡ edgeOf es j .child)
 read-edge [] j = (refl, refl)

@@ -40,7 +40,7 @@ module _ (k : ℕ) where
       (λ v xs u p h. rules-stay ms xs (under k ms f v xs .entries) p (given f u) (walk-begins k ms (given f v) xs) h)
       es (suc m)
 
-  -- so do the entries from the place down that a walk gives
+  -- the entries from the place down that a walk gives rule as f does
   pub walk-rules : (ms : List ℕ) (f : List ℕ → Ruling) (es : Entries) → Rules ms (walk k ms f es .entries) (walk k ms f es .place) f
   unfolding walk
   walk-rules [] f es = enter-entry (terminal (f [])) (header k) es
@@ -55,6 +55,6 @@ module _ (k : ℕ) where
             0 (o .edges) (suc m) (level-by m ms f (λ v xs. walk-rules ms (given f v) xs) es),
       )
 
-  -- and so do the edges of a level
+  -- the open edges that the walk of a level leaves rule as f does
   pub level-rules : (m : ℕ) (ms : List ℕ) (f : List ℕ → Ruling) (es : Entries) → LevelRules m ms f (below (under k ms f) es (suc m))
   level-rules m ms f es = level-by m ms f (λ v xs. walk-rules ms (given f v) xs) es

@@ -1,22 +1,20 @@
 -- In any slice that starts with a walked diagram, a request within the maxima gets the answer and the list of the ruling walked.
 -- Assumes nothing.
-use mathlib.Core.Path.{_≡_, sym, ap, _∙_, subst}
+use mathlib.Core.Path.{_≡_, ap, _∙_, subst}
 use mathlib.Core.List.{List, _++_}
 use Prim.Native.Nat.{ℕ, _≤_, _<_}
 use native.Mathlib.Omega.{arith}
 use lib.ListN.{length, getD}
 use Rattle.answer.specs.Fields.{fields}
-use Rattle.answer.specs.Rulings.{Ruling, ruledOrShort, listed}
-use Rattle.answer.proofs.FirstField.{within-none}
-use Rattle.answer.proofs.Answering.{answered-within}
-use Rattle.diagram.specs.Layout.{mostPlaces, maximum}
+use Rattle.answer.specs.Answers.{padded}
+use Rattle.answer.specs.Rulings.{Ruling, answerOf}
+use Rattle.diagram.specs.Layout.{mostPlaces}
 use Rattle.diagram.specs.Walk.{diagram, WithinMaxima}
-use Rattle.diagram.specs.LookUp.{ruledBy}
 use Rattle.diagram.specs.Sound.{Holdable, Sound}
 use Rattle.diagram.specs.LookedUp.{lookedUp, lookedUpList}
 use Rattle.diagram.proofs.LookUpGivesTheRuling.{look-up-gives-the-ruling}
 use Rattle.diagram.proofs.DiagramIsSound.{diagram-is-sound}
-use Rattle.diagram.proofs.Outcome.{was-sound}
+use Rattle.diagram.proofs.LookUpAnswers.{sound-ruled}
 use Rattle.diagram.proofs.WithinAsWalked.{within-length, within-as-walked}
 
 module _ (ms : List ℕ) (f : List ℕ → Ruling) (tail : List ℕ) (all : length ms ≡ fields) (maxima : (i : ℕ) → i < length ms → getD ms i 0 ≤ 255)
@@ -28,17 +26,11 @@ module _ (ms : List ℕ) (f : List ℕ → Ruling) (tail : List ℕ) (all : leng
   sound : Sound fields slice
   sound = subst (λ k. Sound k slice) all (diagram-is-sound ms f tail (omega arith) maxima holdable most)
 
-  -- the answer: the decision and the number of cards, or refusal 10
-  pub walked-diagram-answers : lookedUp (diagram ms f ++ tail) q n ≡ ruledOrShort (f q) n
-  walked-diagram-answers =
-      sym (was-sound slice q n sound)
-      ∙ sym (answered-within (maximum slice) q (ruledBy slice q) n
-      (omega (arith, within-none (maximum slice) q (within-as-walked ms f tail q all (within-length ms q w ∙ all) .1 w))))
-      ∙ ap (λ r. ruledOrShort r n) (look-up-gives-the-ruling ms f tail q w)
-
-  -- what the list then holds
-  pub walked-diagram-lists : lookedUpList (diagram ms f ++ tail) q n ≡ listed (ruledOrShort (f q) n) (f q .cards) n
-  unfolding lookedUpList
-  walked-diagram-lists =
-      ap (λ a. listed a (ruledBy slice q .cards) n) walked-diagram-answers
-      ∙ ap (λ r. listed (ruledOrShort (f q) n) (r .cards) n) (look-up-gives-the-ruling ms f tail q w)
+  -- the answer and the list: those of the ruling, where the list is long enough for its cards
+  pub walked-diagram-answers : length (f q .cards) ≤ n →
+      (lookedUp (diagram ms f ++ tail) q n ≡ answerOf (f q))
+      × (lookedUpList (diagram ms f ++ tail) q n ≡ padded (f q .cards) n)
+  walked-diagram-answers l =
+      let same = look-up-gives-the-ruling ms f tail q w in
+      let h = sound-ruled slice q n sound (within-as-walked ms f tail q all (within-length ms q w ∙ all) .1 w) (omega (arith, ap (λ r. length (r .cards)) same)) in
+      (h .0 ∙ ap answerOf same, h .1 ∙ ap (λ r. padded (r .cards) n) same)

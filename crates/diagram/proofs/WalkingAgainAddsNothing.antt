@@ -94,7 +94,7 @@ module _ (under : ℕ → Entries → Entered) (es : Entries) (v : ℕ) where
       ∙ ap (λ xs. record { entries = first .entries; edges = xs }) (extend-again (o .edges) m (suc m) (first .place)))
 
 module _ (k : ℕ) where
-  -- whatever was entered since
+  -- walking again adds nothing, whatever was entered since
   pub walking-again-adds-nothing : (ms : List ℕ) (f : List ℕ → Ruling) (es ys : Entries) → Begins (walk k ms f es .entries) ys →
       walk k ms f ys ≡ kept ys (walk k ms f es .place)
   unfolding walk
@@ -113,6 +113,6 @@ module _ (k : ℕ) where
     pub alike-adds-nothing : (ys : Entries) → Begins (walk k ms f es .entries) ys → walk k ms g ys ≡ kept ys (walk k ms f es .place)
     alike-adds-nothing ys b = walk-goes-by-rulings-within k ms g f ys alike ∙ walking-again-adds-nothing ms f es ys b
 
-    -- at once after it, too
+    -- what rules alike adds nothing at once after the walk
     pub alike-at-once : walk k ms g (walk k ms f es .entries) ≡ walk k ms f es
     alike-at-once = alike-adds-nothing (walk k ms f es .entries) (begins-itself (walk k ms f es .entries))

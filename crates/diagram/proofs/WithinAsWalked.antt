@@ -33,7 +33,7 @@ each-within [] (v ∷ q) e h = absurd (omega arith)
 each-within (m ∷ ms) [] e h = absurd (omega arith)
 each-within (m ∷ ms) (v ∷ q) e h = (h 0 (omega arith), each-within ms q (omega arith) (λ i l. h (suc i) (omega arith)))
 
--- both ways, whatever follows the diagram in the slice
+-- within the header's maxima exactly where within those walked, whatever follows the diagram in the slice
 pub within-as-walked : (ms : List ℕ) (f : List ℕ → Ruling) (tail q : List ℕ) → length ms ≡ fields → length q ≡ fields →
     Within (maximum (diagram ms f ++ tail)) q ↔ WithinMaxima ms q
 within-as-walked ms f tail q e n = (

@@ -11,7 +11,7 @@ use lib.Dec.{eqb, leb, ltb}
 abbrev pub Decided : Type 0 → Type 0
 Decided A = A ⊎ (A → ⊥)
 
--- whether the claim holds
+-- whether a decided claim holds
 abbrev pub yes? : {A : Type 0} → Decided A → Bool
 yes? (inl a) = true
 yes? (inr a) = false

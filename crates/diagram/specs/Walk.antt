@@ -13,7 +13,7 @@ use Rattle.diagram.specs.Entries.{terminal, Edge, node}
 abbrev pub Entries : Type 0
 Entries = List (List ℕ)
 
--- the places that they take, one entry after another
+-- the numbers of all entries, one entry after another
 abbrev pub joined : Entries → List ℕ
 joined [] = []
 joined (x ∷ xs) = x ++ joined xs

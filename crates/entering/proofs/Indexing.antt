@@ -84,7 +84,7 @@ none-indexed = record {
 
 -- one more entry is entered, and the index is changed
 module _ (es : Entries) (e index : List ℕ) (end : ℕ) (x : Indexed es index) (new : IsNew es e) (ends : header fields + length (joined es) ≡ end) where
-  -- the entries then
+  -- the entries with the new one
   abbrev more : Entries
   more = es ++ (e ∷ [])
 
@@ -111,9 +111,9 @@ module _ (es : Entries) (e index : List ℕ) (end : ℕ) (x : Indexed es index) 
         (old .0, subst (StandsAt more (old .0)) (sym w) (stands-on (old .0) (placeIn index s) (old .1))))
         (holds s)
 
-    -- another entry
+    -- an entry y, other than the new one, of which the slots tried hold others
     module _ (y : List ℕ) (j : ℕ) (t : j < tries) (o : Others more after y j) where
-      -- it is new, or the slots tried for it held others before
+      -- y is new, or the slots tried for it held others before
       held-others : (k : ℕ) → k ≤ j → IsNew es y ⊎ Others es index y k
       held-others zero l = inr (λ i h. absurd (omega arith))
       held-others (suc k) l =
@@ -150,7 +150,7 @@ module _ (es : Entries) (e index : List ℕ) (end : ℕ) (x : Indexed es index) 
           (either (same e y));
     }
 
-  -- it is noted in the first empty slot that was tried for it
+  -- the new entry is noted in the first empty slot that was tried for it
   noted-in-slot : 0 < end → (s j : ℕ) → j < tries → s ≡ slotOf e j → Others es index e j → placeIn index s ≡ 0 → Indexed more (set index s end)
   noted-in-slot h s j t is o empty =
       indexed-more after keeps holds known (length-set index s end ∙ x .sized)
@@ -180,7 +180,7 @@ module _ (es : Entries) (e index : List ℕ) (end : ℕ) (x : Indexed es index) 
           (lt-or-ge k j))
           (lt-or-ge j k)
 
-  -- all the slots tried for it hold others: it is not noted
+  -- all slots tried for the new entry hold others: it is not noted
   not-noted : Others es index e tries → Indexed more (set index slots end)
   not-noted o =
       subst (Indexed more) (sym (set-out index slots end (omega (arith, x .sized))))
@@ -188,7 +188,7 @@ module _ (es : Entries) (e index : List ℕ) (end : ℕ) (x : Indexed es index) 
 
 -- whether what starts at place p of d is equal to e, on each way out
 module _ (d : List ℕ) (end p : ℕ) (e : List ℕ) where
-  -- what starts there, at its size, is equal
+  -- whether the entry that starts at p is equal to e
   abbrev there-same : Bool
   there-same = same (take (sizeAt d p) (drop p d)) e
 
@@ -230,7 +230,7 @@ module _ (es : Entries) (d index : List ℕ) (end : ℕ) (l : Laid es d index en
   size-there : sizeAt d p ≡ length e
   size-there = entry-size d p e (subst IsEntry (entry-at .is) (formed-at es (entry-at .index) (entry-at .there) (l .formed))) stands-there
 
-  -- so it is what is compared
+  -- the entry at p is what is compared
   compared : (y : List ℕ) → equalAt d end p y ≡ same e y
   compared y =
       let r = entry-ends (header fields) es p e entry-at in
@@ -251,7 +251,7 @@ module _ (d : List ℕ) (end : ℕ) (index e : List ℕ) where
   pub tried-none : Tried 0
   tried-none es l i h = absurd (omega arith)
 
-  -- all of them: all entries were compared
+  -- all slots were tried, and then all entries compared
   pub compared-finds : Tried tries → (place : ℕ) → Found d end e place → Finds place slots
   compared-finds tried place f es l = record {
     is = f es index l;
@@ -269,7 +269,7 @@ module _ (d : List ℕ) (end : ℕ) (index e : List ℕ) where
     held : place ≡ placeIn index (slotOf e j)
     held = at ∙ ap (placeIn index) here
 
-    -- it is empty
+    -- the slot is empty
     pub empty-finds : j < tries → place ≡ 0 → Finds end ((hash + j) % slots)
     empty-finds t empty es l =
         let new = l .indexed .covers e j t (tried es l) (sym held ∙ empty) in
@@ -280,7 +280,7 @@ module _ (d : List ℕ) (end : ℕ) (index e : List ℕ) where
               noted-in-slot es e index end (l .indexed) new (l .ends) (omega (arith, l .ends)) ((hash + j) % slots) j t here (tried es l) (sym at ∙ empty);
         }
 
-    -- it holds the place of an equal entry
+    -- the slot holds the place of an equal entry
     pub equal-finds : (place ≡ 0 → ⊥) → true ≡ equalAt d end place e → Finds place slots
     equal-finds n t es l =
         let a = l .indexed .points (slotOf e j) (λ z. n (held ∙ z)) in
@@ -291,7 +291,7 @@ module _ (d : List ℕ) (end : ℕ) (index e : List ℕ) where
           noted = λ h. absurd (omega (arith, equal-before-end d end place e t));
         }
 
-    -- it holds that of another
+    -- the slot holds the place of another entry
     pub tried-more : (place ≡ 0 → ⊥) → false ≡ equalAt d end place e → Tried (j + 1)
     tried-more n f es l =
         below-more _ j (tried es l) (

@@ -1,12 +1,12 @@
 -- An entry that is entered stands already, or follows the last one: where it is to stand, whether there is room, and what is left once it is written.
 -- Assumes nothing.
 use mathlib.Core.Path.{_≡_, refl, sym, ap, _∙_, subst}
-use mathlib.Core.Bool.{Bool, true, false}
+use mathlib.Core.Bool.{Bool, true, false, false≢true}
 use mathlib.Core.Logic.{_⊎_, inl, inr, ⊎-elim}
 use mathlib.Core.List.{List, [], _∷_, _++_, append-assoc, append-nil}
 use Prim.Native.Nat.{ℕ, _+_, _-_, _≤_, _<_, min}
 use native.Mathlib.Omega.{arith}
-use lib.ListN.{length, take, drop, set, length-append, length-replicate}
+use lib.ListN.{length, take, drop, set, length-append, length-replicate, replicate-append-replicate}
 use lib.Seq.{sets, length-sets, take-at, drop-at}
 use borrow.Rule.Slice.PartMut.{midOf, putMid}
 use Rattle.answer.specs.Fields.{fields}
@@ -18,8 +18,27 @@ use Rattle.diagram.specs.Walk.{Entries, joined, Entered, enter}
 use Rattle.diagram.proofs.EntryPlaces.{joined-append}
 use Rattle.diagram.proofs.EntriesGrow.{by-entering}
 use Rattle.entering.specs.Index.{slots, Indexed, Finding}
-use Rattle.entering.specs.Laid.{IsEntry, AllEntries, Laid, Room, NoRoom, Settled, Settling, Standing}
+use Rattle.entering.specs.Laid.{IsEntry, AllEntries, Laid, NoRoom, Bounded, Settled, Settling, Standing}
 use Rattle.entering.proofs.NumbersWritten.{rest-lent, rest-back, rest-kept, rest-length}
+
+-- a cleared diagram has no entries
+pub none-laid : (d index : List ℕ) (n : ℕ) → d ≡ zeros n → header fields ≤ n → Indexed [] index → Laid [] d index (header fields)
+none-laid d index n e h x =
+    let k : length d ≡ n = ap length e ∙ length-replicate {A = ℕ} n 0 in
+    let front = zeros (header fields) in
+    let z : header fields + (n - length (front ++ [])) ≡ n =
+    omega (arith, length-append front [], length-replicate {A = ℕ} (header fields) 0) in
+    record {
+      is =
+          e
+          ∙ sym (ap (λ l. l ++ zeros (n - length (front ++ []))) (append-nil front)
+          ∙ replicate-append-replicate {A = ℕ} (header fields) (n - length (front ++ [])) 0
+          ∙ ap zeros z)
+          ∙ ap (padded (front ++ [])) (sym k);
+      ends = omega arith;
+      formed = tt;
+      indexed = x;
+    }
 
 -- an entry takes places
 entry-some : (e : List ℕ) → IsEntry e → 1 ≤ length e
@@ -44,7 +63,7 @@ module _ (e : List ℕ) where
       (h (f .1)))
 
 module _ (es : Entries) (d index : List ℕ) (end : ℕ) (e : List ℕ) (l : Laid es d index end) where
-  -- what is entered
+  -- the entries with e entered, and its place
   abbrev pub entered : Entered
   entered = enter (header fields) es e
 
@@ -74,11 +93,11 @@ module _ (es : Entries) (d index : List ℕ) (end : ℕ) (e : List ℕ) (l : Lai
           indexed = subst (λ x. Indexed x index) (sym stays) (l .indexed);
         }
 
-    -- there was none, and no room
+    -- no equal entry was found, and there is no room
     pub none-fits : (n : ℕ) → end ≤ place → min mostPlaces n < end + length e → NoRoom entered n
     none-fits n h m = omega (arith, longer-entered (omega (arith, f .is)))
 
-    -- there was none, and there is room: it is noted
+    -- no equal entry was found, and there is room: the entry is noted
     pub end-settles : end ≤ place → (after : List ℕ) → (length index ≡ slots → after ≡ set index s end) → Settled entered after (end + length e) end
     end-settles h after w =
         let new = follows (omega (arith, f .is)) in
@@ -176,29 +195,29 @@ pub record Sought (d index : List ℕ) (end : ℕ) (e after : List ℕ) (full : 
   pub entry : IsEntry e
   pub part : List ℕ
   pub same : part ≡ e
-  pub room : Room (length d) next × (place < mostPlaces)
+  pub room : Bounded d index end d after full next place
   pub new : end ≤ place → (place ≡ end) × (next ≡ end + length part) × (full ≡ false)
   pub settles : (es : Entries) → Laid es d index end → Settling (enter (header fields) es part) (length d) after full next place
 
--- Entering it leaves `now`, whether it is a terminal or a node.
+-- Entering an entry leaves `now`, whether it is a terminal or a node.
 module _ (d index : List ℕ) (end : ℕ) (e after : List ℕ) (full : Bool) (next place : ℕ) (s : Sought d index end e after full next place) where
   abbrev Enters : List ℕ → Type 0
   Enters now =
-      (Room (length d) next × (place < mostPlaces))
+      Bounded d index end now after full next place
       × ((es : Entries) → Laid es d index end → Standing (enter (header fields) es e) (length d) now after full next place)
 
-  -- an equal one stands, or there is no room
+  -- where an equal entry stands or there is no room, the diagram is left as it is
   pub is-left : place < end → Enters d
   is-left h = (s .room, λ es l. nothing-written es d index end e l (s .part) (s .same) after full next place (s .settles es l) h)
 
   module _ (h : end ≤ place) where
-    -- the rest of the diagram has room for it
+    -- the rest of the diagram has room for the entry
     pub rest-fits : length e ≤ length (midOf end (length d - end) d)
     rest-fits = omega (arith, s .new h .1, s .room .0 .1, ap length (s .same), rest-length d end (omega (arith, s .new h .1, s .room .0 .1)))
 
-    -- it is written there
+    -- the entry is written into the rest of the diagram
     pub is-written : (rest : List ℕ) → rest ≡ sets (midOf end (length d - end) d) 0 e → Enters (putMid end (length d - end) d rest)
     is-written rest r = (
-      s .room,
+      (s .room .0, s .room .1, λ f. absurd (false≢true (sym (s .new h .2) ∙ f))),
       λ es l. one-written es d index end e l (s .part) (s .same) after full next place (s .settles es l) (s .entry) (s .new h) (s .room .0 .1) rest r,
     )

@@ -4,3 +4,6 @@ pub mod NumbersWritten
 pub mod Seeking
 pub mod LaidOut
 pub mod Indexing
+pub mod WalkedBefore
+pub mod Levels
+pub mod ValueByValue

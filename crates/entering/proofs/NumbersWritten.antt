@@ -38,7 +38,7 @@ pub start-is : (d ns now : List ℕ) (k : ℕ) → now ≡ sets d 0 ns → k ≡
 start-is d ns now k w e h =
     ap (take k) (w ∙ sets-eq ns d 0 (omega arith)) ∙ take-at ns (drop (0 + length ns) d) k (sym e)
 
--- numbers stored at its start are stored from p on
+-- numbers stored at the start of the rest from p on are stored from p on
 pub rest-stored : (d ns r : List ℕ) (p : ℕ) → p + length ns ≤ length d → r ≡ sets (midOf p (length d - p) d) 0 ns → putMid p (length d - p) d r ≡ sets d p ns
 rest-stored d ns r p h e =
     let z : 0 + length ns ≡ length ns = omega arith in
@@ -60,7 +60,7 @@ module _ (room last child : List ℕ) where
   abbrev pub Writing : ℕ → List ℕ → Type 0
   Writing j now = now ≡ sets room 2 (edgeNumbers (edgesIn last child j))
 
-  -- one edge more
+  -- the numbers of one edge more
   pub edge-written : (j : ℕ) (now : List ℕ) → Writing j now → Writing (j + 1) (set (set now (2 + 2 * j) (getD last j 0)) (3 + 2 * j) (getD child j 0))
   edge-written j now w =
       let ns = edgeNumbers (edgesIn last child j) in
@@ -82,7 +82,7 @@ node-written room last child level n j now w h g =
     w ∙ ap (λ k. sets room 0 (level ∷ n ∷ edgeNumbers (edgesIn last child k))) z
     ∙ ap (λ k. sets room 0 (level ∷ k ∷ edgeNumbers (edgesIn last child n))) (sym (edges-length last child n))
 
--- how many numbers there are
+-- how many numbers a node and a terminal have
 
 pub node-length : (last child : List ℕ) (level n : ℕ) (part : List ℕ) → part ≡ node level (edgesIn last child n) → length part ≡ 2 + 2 * n
 unfolding node
@@ -92,7 +92,7 @@ pub terminal-length : (decision : ℕ) (cards part : List ℕ) → part ≡ term
 unfolding terminal
 terminal-length decision cards part w = ap length w ∙ omega arith
 
--- three numbers stored move no end
+-- storing three numbers keeps the length
 pub three-kept : (room : List ℕ) (i j k a b c : ℕ) → length (set (set (set room i a) j b) k c) ≡ length room
 three-kept room i j k a b c =
     length-set (set (set room i a) j b) k c ∙ length-set (set room i a) j b ∙ length-set room i a

@@ -14,7 +14,7 @@ use Rattle.diagram.specs.Entries.{Edge}
 use Rattle.diagram.specs.Walk.{extend}
 use Rattle.entering.specs.Edges.{edgeIn, edgesIn}
 
--- there are as many as are counted
+-- the first n open edges are n
 pub edges-length : (last child : List ℕ) (n : ℕ) → length (edgesIn last child n) ≡ n
 edges-length last child zero = refl
 edges-length last child (suc n) =
@@ -57,7 +57,7 @@ module _ (last child : List ℕ) (v c : ℕ) where
       ∙ ap (λ b. cond b (es ++ edgeTo v c) (edgesIn last child (suc n) ++ edgeTo v c)) (eq-eqb (getD child n 0) c e)
       ∙ ap (λ k. es ++ edgeTo v k) (sym e)))
 
-  -- the last edge has the same child
+  -- the last open edge has the same child: its end moves
   pub shared-edge : (n : ℕ) → 0 < n → n < length last → getD child (n - 1) 0 ≡ c → edgesIn (set last (n - 1) v) child n ≡ extend (edgesIn last child n) v c
   shared-edge n h l e =
       let z : suc (n - 1) ≡ n = omega arith in
@@ -70,7 +70,7 @@ module _ (last child : List ℕ) (v c : ℕ) where
       sym (extend-last (edgesIn last child m) (edgeIn last child m) v c
       ∙ ap (λ b. cond b (edgesIn last child m ++ edgeTo v c) (edgesIn last child (suc m) ++ edgeTo v c)) (ne-eqb (getD child m 0) c (other m refl)))
 
-  -- there is none, or it has another
+  -- no edge is open, or the last has another child: one more opens
   pub opened-edge : (n : ℕ) → n < length last → n < length child → ((m : ℕ) → n ≡ suc m → getD child m 0 ≡ c → ⊥) →
       edgesIn (set last n v) (set child n c) (n + 1) ≡ extend (edgesIn last child n) v c
   opened-edge n l k other =

@@ -58,7 +58,7 @@ pub record Left (es : Entries) (d : List ℕ) (end : ℕ) (e : List ℕ) (p : �
   pub formed : AllEntries ys
   pub found : enter (header fields) es e .place ≡ enter p ys e .place
 
--- some are left, of those laid
+-- of the entries laid some are left to search
 abbrev pub Seeks : List ℕ → ℕ → List ℕ → ℕ → Type 0
 Seeks d end e p = (es : Entries) (index : List ℕ) → Laid es d index end → (ys : Entries) × Left es d end e p ys
 
@@ -66,7 +66,7 @@ module _ (d : List ℕ) (end : ℕ) (e : List ℕ) where
   pub seek-starts : Seeks d end e (header fields)
   seek-starts es index l = (es, record { stand = laid-stands es d index end l; ends = l .ends; formed = l .formed; found = refl })
 
-  -- what is left to search is the answer's place
+  -- p is the place that entering e gives, among any entries laid
   abbrev pub Found : ℕ → Type 0
   Found p = (es : Entries) (index : List ℕ) → Laid es d index end → p ≡ enter (header fields) es e .place
 
@@ -75,7 +75,7 @@ module _ (d : List ℕ) (end : ℕ) (e : List ℕ) where
     first-size : (es : Entries) (x : List ℕ) (ys : Entries) → Left es d end e p (x ∷ ys) → sizeAt d p ≡ length x
     first-size es x ys s = entry-size d p x (s .formed .0) (stands-front d p x (joined ys) (s .stand))
 
-    -- it does not reach past the end
+    -- the first entry left does not reach past the end
     pub seek-within : p < end → end - p < sizeAt d p → Found end
     seek-within h k es index l = absurd (go (seeks es index l .0) (seeks es index l .1))
       where
@@ -89,7 +89,7 @@ module _ (d : List ℕ) (end : ℕ) (e : List ℕ) where
           let z : p + size - p ≡ length x = omega (arith, first-size es x ys s) in
           ap (λ k. take k (drop p d)) z ∙ stands-taken d p x (stands-front d p x (joined ys) (s .stand))
 
-      -- it is equal
+      -- the first entry left is equal
       pub seek-found : true ≡ same (take (p + size - p) (drop p d)) e → Found p
       seek-found t es index l = go (seeks es index l .0) (seeks es index l .1)
         where
@@ -98,7 +98,7 @@ module _ (d : List ℕ) (end : ℕ) (e : List ℕ) where
           go (x ∷ ys) s =
               sym (s .found ∙ ap (λ (r : Entered). r .place) (enter-here e p x ys (ap (λ y. same y e) (sym (part-is es x ys s)) ∙ sym t)))
 
-      -- it is another
+      -- the first entry left is another
       pub seek-on : false ≡ same (take (p + size - p) (drop p d)) e → Seeks d end e (p + size)
       seek-on t es index l = go (seeks es index l .0) (seeks es index l .1)
         where
@@ -118,7 +118,7 @@ module _ (d : List ℕ) (end : ℕ) (e : List ℕ) where
                 },
               )
 
-    -- nothing is left
+    -- no entry is left
     pub seek-ends : p ≡ end → Found end
     unfolding enter
     seek-ends h es index l = go (seeks es index l .0) (seeks es index l .1)

@@ -44,7 +44,7 @@ Others es index e j = (i : ℕ) → i < j → (placeIn index (slotOf e i) ≡ 0 
 
 -- The index is right about the entries es.
 pub record Indexed (es : Entries) (index : List ℕ) : Type 0 where
-  -- it has all the slots
+  -- the index has all the slots
   pub sized : length index ≡ slots
   -- a slot that holds a place holds that of an entry
   pub points : (s : ℕ) → (placeIn index s ≡ 0 → ⊥) → (e : List ℕ) × StandsAt es e (placeIn index s)

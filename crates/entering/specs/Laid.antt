@@ -18,7 +18,7 @@ use Rattle.entering.specs.Index.{Indexed}
 abbrev pub IsEntry : List ℕ → Type 0
 IsEntry e = ((r : Ruling) × (e ≡ terminal r)) ⊎ ((level : ℕ) × (edges : List Edge) × (1 ≤ level) × (e ≡ node level edges))
 
--- each of them is an entry
+-- each list of numbers is an entry
 abbrev pub AllEntries : Entries → Type 0
 AllEntries [] = Unit {0}
 AllEntries (e ∷ es) = IsEntry e × AllEntries es
@@ -39,6 +39,18 @@ Room n end = (header fields ≤ end) × (end ≤ n) × (end ≤ mostPlaces)
 abbrev pub NoRoom : Entered → ℕ → Type 0
 NoRoom x n = min mostPlaces n < header fields + length (joined (x .entries))
 
+-- Nothing is entered: the diagram, the index and the end are left as they were, and the place is 0.
+pub record Untouched (d index : List ℕ) (end : ℕ) (d′ index′ : List ℕ) (end′ place : ℕ) : Type 0 where
+  pub diagram : d′ ≡ d
+  pub slots : index′ ≡ index
+  pub ends : end′ ≡ end
+  pub nowhere : place ≡ 0
+
+-- What entering leaves whatever the diagram holds: its end and its place are free in these bounds, and where there is no room nothing is entered.
+abbrev pub Bounded : List ℕ → List ℕ → ℕ → List ℕ → List ℕ → Bool → ℕ → ℕ → Type 0
+Bounded d index end d′ index′ full end′ place =
+    Room (length d) end′ × (place < mostPlaces) × (full ≡ true → Untouched d index end d′ index′ end′ place)
+
 -- the entries of x end at `end`, what was entered stands at `place`, and the index is right about them
 pub record Settled (x : Entered) (index : List ℕ) (end place : ℕ) : Type 0 where
   pub ends : header fields + length (joined (x .entries)) ≡ end
@@ -55,7 +67,7 @@ pub record Stood (x : Entered) (d index : List ℕ) (end place : ℕ) : Type 0 w
   pub laid : Laid (x .entries) d index end
   pub at : place ≡ x .place
 
--- what is left once it is written
+-- what entering an entry leaves, once it is written
 abbrev pub Standing : Entered → ℕ → List ℕ → List ℕ → Bool → ℕ → ℕ → Type 0
 Standing x n d index true end place = NoRoom x n
 Standing x n d index false end place = Stood x d index end place

@@ -8,14 +8,14 @@ use crate::writing::TERMINAL;
 use crate::writing::write_node;
 use crate::writing::write_terminal;
 ghost use mathlib.Core.Path.{_≡_};
-ghost use Prim.Native.Nat.{_+_, _≤_, _<_};
+ghost use Prim.Native.Nat.{_≤_};
 ghost use lib.ListN.{length};
 ghost use Rattle.answer.specs.Fields.{fields};
-ghost use Rattle.diagram.specs.Layout.{header, mostPlaces};
+ghost use Rattle.diagram.specs.Layout.{header};
 ghost use Rattle.diagram.specs.Entries.{terminal, node};
 ghost use Rattle.diagram.specs.Walk.{Entries, enter};
 ghost use Rattle.entering.specs.Edges.{edgesIn};
-ghost use Rattle.entering.specs.Laid.{Laid, Room, Standing};
+ghost use Rattle.entering.specs.Laid.{Laid, Room, Bounded, Standing};
 
 // Enters a terminal: a new one is written into the part of the diagram that starts after the last entry.
 pub fn enter_terminal(
@@ -26,7 +26,7 @@ pub fn enter_terminal(
     cards: &[u16],
 ) -> Step
     requires { ⌜ Room (length (now diagram)) end × (length (now cards) ≤ 127) ⌝ }
-    ensures { λ r. ⌜ Room (length (now (diagram .entry))) (r .end) × (r .place < mostPlaces) ⌝ }
+    ensures { λ r. ⌜ Bounded (now (diagram .entry)) (now (index .entry)) end (now (diagram .exit)) (now (index .exit)) (r .full) (r .end) (r .place) ⌝ }
     ensures { λ r. ⌜ ((es : Entries) → Laid es (now (diagram .entry)) (now (index .entry)) end → Standing (enter (header fields) es (terminal (record { decision = decision; cards = now (cards .entry) }))) (length (now (diagram .entry))) (now (diagram .exit)) (now (index .exit)) (r .full) (r .end) (r .place)) ⌝ }
 {
     let mut entry = [0u16; TERMINAL];
@@ -50,7 +50,7 @@ pub fn enter_node(
     edges: usize,
 ) -> Step
     requires { ⌜ Room (length (now diagram)) end × ((1 ≤ level) × (edges ≤ 256)) ⌝ }
-    ensures { λ r. ⌜ Room (length (now (diagram .entry))) (r .end) × (r .place < mostPlaces) ⌝ }
+    ensures { λ r. ⌜ Bounded (now (diagram .entry)) (now (index .entry)) end (now (diagram .exit)) (now (index .exit)) (r .full) (r .end) (r .place) ⌝ }
     ensures { λ r. ⌜ ((es : Entries) → Laid es (now (diagram .entry)) (now (index .entry)) end → Standing (enter (header fields) es (node level (edgesIn (now (last .entry)) (now (child .entry)) edges))) (length (now (diagram .entry))) (now (diagram .exit)) (now (index .exit)) (r .full) (r .end) (r .place)) ⌝ }
 {
     let mut entry = [0u16; NODE];

@@ -3,15 +3,15 @@ use diagram::HEADER;
 use diagram::MOST_PLACES;
 use diagram::layout::size_at;
 ghost use mathlib.Core.Path.{_≡_};
-ghost use mathlib.Core.Bool.{true, false};
+ghost use mathlib.Core.Bool.{false};
 ghost use mathlib.Core.List.{List};
 ghost use Prim.Native.Nat.{ℕ, _+_, _≤_, _<_};
 ghost use lib.ListN.{length, set};
 ghost use Rattle.answer.specs.Fields.{fields};
-ghost use Rattle.diagram.specs.Layout.{header, mostPlaces};
+ghost use Rattle.diagram.specs.Layout.{header};
 ghost use Rattle.diagram.specs.Walk.{Entries, same, enter};
 ghost use Rattle.entering.specs.Index.{slots, hashed, equalAt, Finding};
-ghost use Rattle.entering.specs.Laid.{Laid, Room, Settling};
+ghost use Rattle.entering.specs.Laid.{Laid, Room, Bounded, Settling};
 
 // How many slots the index has, and how many of them are tried for an entry.
 pub const SLOTS: usize = 8192;
@@ -143,7 +143,7 @@ fn note(index: &mut [u16; SLOTS], slot: usize, place: u16)
 // Where an entry stands, or is to stand after the last one, if there is room: the index then knows it.
 pub(crate) fn settle(diagram: &[u16], end: usize, index: &mut [u16; SLOTS], entry: &[u16]) -> Step
     requires { ⌜ Room (length (now diagram)) end × ((1 ≤ length (now entry)) × (length (now entry) ≤ 514)) ⌝ }
-    ensures { λ r. ⌜ Room (length (now (diagram .entry))) (r .end) × (r .place < mostPlaces) ⌝ }
+    ensures { λ r. ⌜ Bounded (now (diagram .entry)) (now (index .entry)) end (now (diagram .exit)) (now (index .exit)) (r .full) (r .end) (r .place) ⌝ }
     ensures { λ r. ⌜ (end ≤ r .place → (r .place ≡ end) × (r .end ≡ end + length (now (entry .entry))) × (r .full ≡ false)) ⌝ }
     ensures { λ r. ⌜ ((es : Entries) → Laid es (now (diagram .entry)) (now (index .entry)) end → Settling (enter (header fields) es (now (entry .entry))) (length (now (diagram .entry))) (now (index .exit)) (r .full) (r .end) (r .place)) ⌝ }
 {

@@ -8,34 +8,33 @@ use native.Mathlib.Omega.{arith}
 use borrow.Author.Tests.{le-ltb}
 use lib.ListN.{length}
 use Rattle.answer.specs.Answers.{counted, ruled, zeros, padded}
-use Rattle.answer.specs.Requests.{Within, fieldFault}
-use Rattle.answer.specs.Rulings.{answered, listed}
-use Rattle.answer.proofs.FirstField.{within-none}
+use Rattle.answer.specs.Refusals.{upward, settled}
+use Rattle.answer.specs.Requests.{Within}
+use Rattle.answer.proofs.RequestRefusals.{within-ruled}
 use Rattle.combining.specs.Ways.{notApplicable}
-use Rattle.table.specs.Layout.{word, maximum, maxima}
+use Rattle.table.specs.Layout.{word, maximum, valuesFrom, maxima, count, header, recordSize, start, recordByte, recordWord}
 use Rattle.table.specs.Tree.{parent, level}
-use Rattle.table.specs.Reading.{lengthFault, versionFault, countFault, kindFault, spanFault, levelFault, rangeFault, rangesFault, cardFault, headerFault, nodeFault, reading}
-use Rattle.table.proofs.FirstRefusal.{number-accepted}
+use Rattle.table.specs.Reading.{lengthFault, versionFault, countFault, kindFault, spanFault, levelFault, rangeFault, rangesFault, cardFault, tableRefusals, Accepted}
 use Rattle.ruling.specs.Forest.{forestWithin}
 use Rattle.ruling.specs.Targets.{inRange, targetHolds, applies}
 use Rattle.ruling.specs.Meaning.{gives, cardsFrom}
-use Rattle.ruling.specs.Ruling.{groups, ruling, ruledList}
+use Rattle.ruling.specs.Ruling.{groups}
 use Rattle.diagram.specs.Entries.{terminal, node}
 use Rattle.diagram.specs.Walk.{enter, extend, below, walk, diagram}
 use Rattle.diagram.proofs.DiagramGoesByRulingsWithin.{diagram-goes-by-rulings-within}
 use Rattle.diagram.proofs.OneRulingForAll.{none-everywhere}
-use Rattle.building.specs.Built.{diagramOf, built, builtDiagram}
-use Rattle.building.proofs.FirstRefusalOrBuilt.{accepted-built}
-use Rattle.kolfsein.specs.Cases.{tableT, overOnlyOne, emptyRoot, emptyDiagram, Rules, Builds, Cases}
+use Rattle.building.specs.Built.{diagramOf}
+use Rattle.building.proofs.BuildAnswers.{accepted-built}
+use Rattle.kolfsein.specs.Cases.{tableT, overOnlyOne, emptyRoot, emptyDiagram, GivesRuling, GivesDiagram, Cases}
 
 either : (b : Bool) (n : ℕ) → cond b n n ≡ n
 either true n = refl
 either false n = refl
 
 module _ (kind subject resource action : ℕ) (few : kind < 4) where
-  empty-reading : reading (emptyRoot kind subject resource action) ≡ counted 1
-  unfolding emptyRoot word parent level lengthFault versionFault countFault kindFault spanFault levelFault rangeFault rangesFault cardFault headerFault nodeFault reading
-  empty-reading =
+  empty-accepted : Accepted (emptyRoot kind subject resource action)
+  unfolding emptyRoot word maximum count header recordSize start recordByte recordWord parent level lengthFault versionFault countFault kindFault spanFault levelFault rangeFault rangesFault cardFault upward tableRefusals
+  empty-accepted =
       simp (
         le-ltb 5 kind (omega arith),
         le-ltb 3 kind (omega arith),
@@ -46,36 +45,27 @@ module _ (kind subject resource action : ℕ) (few : kind < 4) where
         le-ltb action 0 (omega arith),
         le-ltb action action (omega arith),
       )
+      (refl, (refl, (refl, (refl, (refl, (refl, (refl, (refl, tt))))))))
 
   empty-decision : (q : List ℕ) → groups (emptyRoot kind subject resource action) q .decision ≡ notApplicable
-  unfolding emptyRoot word forestWithin gives
+  unfolding emptyRoot word count header recordSize start recordByte recordWord forestWithin gives
   empty-decision q = simp (le-ltb 3 kind (omega arith), either)
 
   empty-cards : (q : List ℕ) → groups (emptyRoot kind subject resource action) q .cards ≡ []
-  unfolding emptyRoot word cardsFrom
+  unfolding emptyRoot word count header recordSize start recordByte cardsFrom
   empty-cards q = simp (le-ltb 3 kind (omega arith))
-
-  empty-answer :
-      (q : List ℕ) → Within (maximum (emptyRoot kind subject resource action)) q
-      → (n : ℕ) → ruling (emptyRoot kind subject resource action) q n ≡ ruled notApplicable 0
-  unfolding answered ruling
-  empty-answer q within n =
-      simp (
-        empty-reading,
-        within-none (maximum (emptyRoot kind subject resource action)) q within,
-        empty-decision q,
-        empty-cards q,
-        le-ltb n 0 (omega arith),
-      )
 
   empty-rules :
       (q : List ℕ) → Within (maximum (emptyRoot kind subject resource action)) q
-      → (n : ℕ) → Rules (emptyRoot kind subject resource action) q n (ruled notApplicable 0) (zeros n)
-  unfolding listed ruledList
+      → (n : ℕ) → GivesRuling (emptyRoot kind subject resource action) q n (ruled notApplicable 0) (zeros n)
   empty-rules q within n =
+      let t = emptyRoot kind subject resource action in
+      let none : n - 0 ≡ n = omega arith in
+      let cards = empty-cards q in
+      let h = within-ruled (tableRefusals t) (maximum t) q (groups t q) n empty-accepted within (omega (arith, ap length cards)) in
       record {
-        answer = empty-answer q within n;
-        holds = let none : n - 0 ≡ n = omega arith in simp (empty-answer q within n, empty-cards q, none);
+        answer = h .0 ∙ ap (λ d. ruled d (length (groups t q .cards))) (empty-decision q) ∙ ap (λ cs. ruled notApplicable (length cs)) cards;
+        holds = h .1 ∙ ap (λ cs. padded cs n) cards ∙ ap zeros none;
       }
 
   empty-groups : (q : List ℕ) → groups (emptyRoot kind subject resource action) q ≡ record { decision = notApplicable; cards = [] }
@@ -84,7 +74,7 @@ module _ (kind subject resource action : ℕ) (few : kind < 4) where
       ∙ ap (λ (cs : List ℕ). record { decision = notApplicable; cards = cs }) (empty-cards q)
 
   empty-maxima : maxima (emptyRoot kind subject resource action) ≡ subject ∷ resource ∷ action ∷ []
-  unfolding emptyRoot
+  unfolding emptyRoot maximum valuesFrom maxima
   empty-maxima = refl
 
   empty-diagram : diagramOf (emptyRoot kind subject resource action) ≡ emptyDiagram subject resource action
@@ -95,18 +85,18 @@ module _ (kind subject resource action : ℕ) (few : kind < 4) where
       (λ q w. empty-groups q)
       ∙ none-everywhere subject resource action
 
-  empty-builds : (n : ℕ) → 20 ≤ n → Builds (emptyRoot kind subject resource action) n (counted 20) (padded (emptyDiagram subject resource action) n)
+  empty-builds : (n : ℕ) → 20 ≤ n → GivesDiagram (emptyRoot kind subject resource action) n (counted 20) (padded (emptyDiagram subject resource action) n)
   empty-builds n l =
       let t = emptyRoot kind subject resource action in
       let k = ap length empty-diagram in
-      let s = accepted-built t n (number-accepted t (ap (λ a. a .number) empty-reading)) (omega (arith, k), omega (arith, k)) in
+      let s = accepted-built t n empty-accepted (omega (arith, k), omega (arith, k)) in
       record {
         answer = s .0 ∙ ap counted k;
         holds = s .1 ∙ ap (λ d. padded d n) empty-diagram;
       }
 
 pub cases-hold : Cases
-unfolding diagram walk enter extend below terminal node built builtDiagram tableT overOnlyOne fieldFault answered listed word parent level lengthFault versionFault countFault kindFault spanFault levelFault rangeFault rangesFault cardFault headerFault nodeFault reading forestWithin inRange targetHolds applies gives cardsFrom ruling ruledList
+unfolding diagram walk enter extend below terminal node tableT overOnlyOne upward settled word maximum valuesFrom maxima count header recordSize start recordByte recordWord parent level lengthFault versionFault countFault kindFault spanFault levelFault rangeFault rangesFault cardFault tableRefusals forestWithin inRange targetHolds applies gives cardsFrom
 cases-hold =
     record {
       t-0-0-0 = record { answer = refl; holds = refl };

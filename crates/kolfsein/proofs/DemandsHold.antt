@@ -1,38 +1,51 @@
 -- The three demands hold.
 -- Assumes nothing.
 use mathlib.Core.Path.{_≡_, sym, ap, _∙_}
-use mathlib.Core.Logic.{_↔_, ⊎-elim}
+use mathlib.Core.Bool.{true, false, not}
+use mathlib.Core.Logic.{_↔_}
 use mathlib.Core.List.{List, _++_}
-use Prim.Native.Nat.{ℕ, _≤_, _<_}
+use Prim.Native.Nat.{ℕ, _-_}
 use lib.ListN.{length}
-use Rattle.answer.specs.Answers.{padded}
-use Rattle.answer.specs.Rulings.{Ruling}
-use Rattle.answer.proofs.Tests.{lt-or-ge}
-use Rattle.table.specs.Layout.{maxima}
-use Rattle.table.specs.Reading.{Accepted}
+use Rattle.answer.specs.Fields.{fields}
+use Rattle.answer.specs.Answers.{refused, counted, zeros, padded}
+use Rattle.answer.specs.Rulings.{Ruling, answerOf}
+use Rattle.answer.proofs.Settling.{answers}
+use Rattle.answer.proofs.RequestRefusals.{within-ruled}
+use Rattle.table.specs.Layout.{maximum, maxima, count}
+use Rattle.table.specs.Reading.{tableRefusals, Accepted}
+use Rattle.table.proofs.Accepting.{accepted-reading}
 use Rattle.table.proofs.AcceptedIsWellFormed.{well-formed}
 use Rattle.ruling.specs.Targets.{applies}
-use Rattle.ruling.specs.Ruling.{groups, ruling, ruledList}
-use Rattle.ruling.proofs.FirstRefusalOrRuling.{accepted-ruled}
+use Rattle.ruling.specs.Ruling.{groups, rulingRefusals, ruling, ruledList}
 use Rattle.ruling.proofs.DecisionAsWorded.{decision-as-worded}
 use Rattle.ruling.proofs.AppliesByParents.{applies-by-parents}
+use Rattle.ruling.proofs.ChildrenByParents.{children-by-parents}
 use Rattle.ruling.proofs.CardsOfMatchingRules.{each-listed, number-of-cards}
-use Rattle.diagram.specs.Layout.{mostPlaces}
-use Rattle.diagram.specs.LookedUp.{lookedUp, lookedUpList}
-use Rattle.building.specs.Built.{diagramOf, built, builtDiagram}
-use Rattle.building.proofs.FirstRefusalOrBuilt.{succeeds-exactly, accepted-built, used-part}
-use Rattle.building.proofs.BuiltAnswersAsGroups.{built-answers, built-lists}
+use Rattle.diagram.specs.Layout.{used}
+use Rattle.diagram.specs.LookUp.{ruledBy}
+use Rattle.diagram.specs.Sound.{Sound}
+use Rattle.diagram.specs.Decided.{yes?, yes-decides}
+use Rattle.diagram.specs.SoundIsDecided.{sound?}
+use Rattle.diagram.specs.LookedUp.{diagramRefusal, lookUpRefusals, lookedUp, lookedUpList}
+use Rattle.diagram.proofs.Deciding.{refuted, sound-is}
+use Rattle.diagram.proofs.DiagramHeader.{diagram-used}
+use Rattle.building.specs.Built.{diagramOf, roomRefusal, buildRefusals, built, builtDiagram}
+use Rattle.building.proofs.BuildAnswers.{none-fits, succeeds-exactly, accepted-built, used-part}
+use Rattle.building.proofs.BuiltAnswersAsGroups.{built-answers}
 use Rattle.building.proofs.EqualExactlyWhenTablesAlike.{equal-exactly-when-tables-alike}
-use Rattle.kolfsein.specs.Refusals.{RoomFault, over-most, over-lent}
-use Rattle.kolfsein.specs.Demands.{WithinFields, LongEnough, Rules, Builds, usedPart, RuleAlike, Demands}
-use Rattle.kolfsein.proofs.TableFaults.{reading-in-order}
-use Rattle.kolfsein.proofs.RulingRefusesInOrder.{ruling-in-order}
-use Rattle.kolfsein.proofs.BuildRefusesInOrder.{build-in-order}
-use Rattle.kolfsein.proofs.LookUpRefusesInOrder.{look-up-in-order}
+use Rattle.kolfsein.specs.Demands.{WithinFields, LongEnough, Rules, Builds, usedPart, RuleAlike, nothing, Demands}
+
+-- demand 1: what a test says of a claim that it decides
+unsound : (d : List ℕ) → (diagramRefusal d .when ≡ true) ↔ (Sound fields d → ⊥)
+unsound d = (
+  λ e. refuted (Sound fields d) (yes? (sound? fields d)) (yes-decides (sound? fields d)) e,
+  λ h. ap not (sym (sound-is d false h)),
+)
 
 -- demand 2
 question : (t q : List ℕ) (n : ℕ) → Accepted t → WithinFields t q → LongEnough t q n → Rules (ruling t q n) (ruledList t q n) (groups t q) n
-question t q n c w l = let h = accepted-ruled t q n c (w .within) l in record { answer = h .0; cards = h .1 }
+question t q n c w l =
+    let h = within-ruled (tableRefusals t) (maximum t) q (groups t q) n c (w .1) l in record { answer = h .0; cards = h .1 }
 
 -- demand 3, through the walk's diagram, which the used part is
 module _ (t : List ℕ) (room : ℕ) (b : Builds t room) where
@@ -48,14 +61,18 @@ module _ (t : List ℕ) (room : ℕ) (b : Builds t room) where
       let d = usedPart t room ++ following in Rules (lookedUp d q n) (lookedUpList d q n) (groups t q) n
   through following q n w l =
       let most = succeeds-exactly t room .0 (b .succeeds) .1 .0 in
+      let h = built-answers t following (b .bytes) (b .accepted) most q n (w .0) (w .1) l in
       record {
-        answer =
-            ap (λ d. lookedUp (d ++ following) q n) walked
-            ∙ built-answers t following (b .bytes) (b .accepted) most q n (w .one-each) (w .within) l;
-        cards =
-            ap (λ d. lookedUpList (d ++ following) q n) walked
-            ∙ built-lists t following (b .bytes) (b .accepted) most q n (w .one-each) (w .within) l;
+        answer = ap (λ d. lookedUp (d ++ following) q n) walked ∙ h .0;
+        cards = ap (λ d. lookedUpList (d ++ following) q n) walked ∙ h .1;
       }
+
+  counts : built t room ≡ record { number = 0; decision = 0; place = 0; count = used (builtDiagram t room) }
+  counts =
+      let h = succeeds-exactly t room .0 (b .succeeds) in
+      let e = accepted-built t room (h .0) (h .1) in
+      let places = diagram-used (maxima t) (groups t) (zeros (room - length (diagramOf t))) in
+      e .0 ∙ ap counted (sym (ap used (e .1) ∙ places))
 
 -- a ruling is its decision and its cards
 same-ruling : (r s : Ruling) → r .decision ≡ s .decision → r .cards ≡ s .cards → r ≡ s
@@ -64,32 +81,33 @@ same-ruling r s e f = ap (λ d. record { decision = d; cards = r .cards }) e ∙
 equal : (t u : List ℕ) (room other : ℕ) → Builds t room → Builds u other →
     (usedPart t room ≡ usedPart u other) ↔ ((maxima t ≡ maxima u) × RuleAlike t u)
 equal t u room other b c =
-    let h = equal-exactly-when-tables-alike t u (b .accepted) (c .accepted) in (
+    let h = equal-exactly-when-tables-alike t u in (
       λ e.
           let a = h .0 (sym (walked t room b) ∙ e ∙ walked u other c) in
-          (a .0, λ q w. let g = a .1 q (w .one-each) (w .within) in (ap (λ r. r .decision) g, ap (λ r. r .cards) g)),
+          (a .0, λ q w. let g = a .1 q (w .0) (w .1) in (ap (λ r. r .decision) g, ap (λ r. r .cards) g)),
       λ a.
           walked t room b
-          ∙ h .1 (a .0, λ q n w. let g = a .1 q (record { one-each = n; within = w }) in same-ruling (groups t q) (groups u q) (g .0) (g .1))
+          ∙ h .1 (a .0, λ q n w. let g = a .1 q (n, w) in same-ruling (groups t q) (groups u q) (g .0) (g .1))
           ∙ sym (walked u other c),
     )
 
-succeeds : (t : List ℕ) (room : ℕ) → Accepted t → (RoomFault t room 11 0 → ⊥) → built t room .number ≡ 0
-succeeds t room c none =
-    let fits : (n : ℕ) → (n < length (diagramOf t) → RoomFault t room 11 0) → length (diagramOf t) ≤ n =
-    λ n fault. ⊎-elim (λ (l : n < length (diagramOf t)). absurd (none (fault l))) (λ (l : length (diagramOf t) ≤ n). l) (lt-or-ge n (length (diagramOf t))) in
-    succeeds-exactly t room .1 (c, (fits mostPlaces over-most, fits room over-lent))
+succeeds : (t : List ℕ) (room : ℕ) → Accepted t → roomRefusal t room .when ≡ false → built t room .number ≡ 0
+succeeds t room c none = succeeds-exactly t room .1 (c, none-fits t room (none, tt))
 
 pub demands-hold : Demands
 demands-hold =
     record {
-      reading-refuses = reading-in-order;
-      ruling-refuses = ruling-in-order;
-      build-refuses = build-in-order;
-      look-up-refuses = look-up-in-order;
+      reading-refuses = λ t. answers refused nothing (counted (count t)) nothing (tableRefusals t);
+      ruling-refuses = λ t q n. answers refused (zeros n) (answerOf (groups t q)) (padded (groups t q .cards) n) (rulingRefusals t q n);
+      build-refuses = λ t n. answers refused (zeros n) (counted (length (diagramOf t))) (padded (diagramOf t) n) (buildRefusals t n);
+      look-up-refuses = λ d q n. answers refused (zeros n) (answerOf (ruledBy d q)) (padded (ruledBy d q .cards) n) (lookUpRefusals d q n);
+      unsound-refused = unsound;
+      reading-counts = accepted-reading;
+      build-counts = counts;
       question-ruled = question;
       decision-worded = λ t q c. sym (decision-as-worded t q c 0 (well-formed t c .some));
       applies-worded = λ t q i c l. applies-by-parents t q c i l;
+      children-worded = λ t i c l. children-by-parents t c i l;
       cards-in-order = λ t q i l e. each-listed (applies t q) t i l e;
       true-count = λ t q. number-of-cards (applies t q) t;
       diagram-rules = through;

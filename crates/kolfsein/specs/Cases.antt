@@ -51,48 +51,48 @@ emptyDiagram subject resource action =
     ∷ []
 
 -- Table t gives request q this answer, where the list has n places, and the list then holds this.
-pub record Rules (t q : List ℕ) (n : ℕ) (a : Answer) (list : List ℕ) : Type 0 where
+pub record GivesRuling (t q : List ℕ) (n : ℕ) (a : Answer) (list : List ℕ) : Type 0 where
   pub answer : ruling t q n ≡ a
   pub holds : ruledList t q n ≡ list
 
 -- Building from table t into n places gives this answer, and they then hold this.
-pub record Builds (t : List ℕ) (n : ℕ) (a : Answer) (d : List ℕ) : Type 0 where
+pub record GivesDiagram (t : List ℕ) (n : ℕ) (a : Answer) (d : List ℕ) : Type 0 where
   pub answer : built t n ≡ a
   pub holds : builtDiagram t n ≡ d
 
 pub record Cases : Type 0 where
   -- "T, (0,0,0): may, 10."
-  pub t-0-0-0 : Rules (tableT 3) (0 ∷ 0 ∷ 0 ∷ []) 2 (ruled permit 1) (10 ∷ 0 ∷ [])
+  pub t-0-0-0 : GivesRuling (tableT 3) (0 ∷ 0 ∷ 0 ∷ []) 2 (ruled permit 1) (10 ∷ 0 ∷ [])
   -- "(1,1,1): may, 30."
-  pub t-1-1-1 : Rules (tableT 3) (1 ∷ 1 ∷ 1 ∷ []) 2 (ruled permit 1) (30 ∷ 0 ∷ [])
+  pub t-1-1-1 : GivesRuling (tableT 3) (1 ∷ 1 ∷ 1 ∷ []) 2 (ruled permit 1) (30 ∷ 0 ∷ [])
   -- "(2,0,1): none, no card."
-  pub t-2-0-1 : Rules (tableT 3) (2 ∷ 0 ∷ 1 ∷ []) 2 (ruled notApplicable 0) (0 ∷ 0 ∷ [])
+  pub t-2-0-1 : GivesRuling (tableT 3) (2 ∷ 0 ∷ 1 ∷ []) 2 (ruled notApplicable 0) (0 ∷ 0 ∷ [])
   -- "T, (2,0,0), list of 3: not; 10, 20, 0."
-  pub t-2-0-0 : Rules (tableT 3) (2 ∷ 0 ∷ 0 ∷ []) 3 (ruled deny 2) (10 ∷ 20 ∷ 0 ∷ [])
+  pub t-2-0-0 : GivesRuling (tableT 3) (2 ∷ 0 ∷ 0 ∷ []) 3 (ruled deny 2) (10 ∷ 20 ∷ 0 ∷ [])
   -- "List of 1: refusal 10, list 0."
-  pub t-list-of-1 : Rules (tableT 3) (2 ∷ 0 ∷ 0 ∷ []) 1 (refused 10 0) (0 ∷ [])
+  pub t-list-of-1 : GivesRuling (tableT 3) (2 ∷ 0 ∷ 0 ∷ []) 1 (refused 10 0) (0 ∷ [])
   -- "T, (3,0,0): refusal 9, field 0."
-  pub t-3-0-0 : Rules (tableT 3) (3 ∷ 0 ∷ 0 ∷ []) 2 (refused 9 0) (0 ∷ 0 ∷ [])
+  pub t-3-0-0 : GivesRuling (tableT 3) (3 ∷ 0 ∷ 0 ∷ []) 2 (refused 9 0) (0 ∷ 0 ∷ [])
   -- "T with root kind 2, (2,0,0): may; 10, 20."
-  pub t-root-kind-2 : Rules (tableT 2) (2 ∷ 0 ∷ 0 ∷ []) 2 (ruled permit 2) (10 ∷ 20 ∷ [])
+  pub t-root-kind-2 : GivesRuling (tableT 2) (2 ∷ 0 ∷ 0 ∷ []) 2 (ruled permit 2) (10 ∷ 20 ∷ [])
   -- "Root kind 1: unclear; same cards."
-  pub t-root-kind-1 : Rules (tableT 1) (2 ∷ 0 ∷ 0 ∷ []) 2 (ruled indeterminate 2) (10 ∷ 20 ∷ [])
+  pub t-root-kind-1 : GivesRuling (tableT 1) (2 ∷ 0 ∷ 0 ∷ []) 2 (ruled indeterminate 2) (10 ∷ 20 ∷ [])
   -- "Root kind 3 over an only-one group with two matching may rules: not."
-  pub root-kind-3-over-only-one : Rules (overOnlyOne 3) (0 ∷ 0 ∷ 0 ∷ []) 3 (ruled deny 2) (1 ∷ 2 ∷ 0 ∷ [])
+  pub root-kind-3-over-only-one : GivesRuling (overOnlyOne 3) (0 ∷ 0 ∷ 0 ∷ []) 3 (ruled deny 2) (1 ∷ 2 ∷ 0 ∷ [])
   -- "Root kind 2 over that group: unclear."
-  pub root-kind-2-over-only-one : Rules (overOnlyOne 2) (0 ∷ 0 ∷ 0 ∷ []) 3 (ruled indeterminate 2) (1 ∷ 2 ∷ 0 ∷ [])
+  pub root-kind-2-over-only-one : GivesRuling (overOnlyOne 2) (0 ∷ 0 ∷ 0 ∷ []) 3 (ruled indeterminate 2) (1 ∷ 2 ∷ 0 ∷ [])
   -- "An empty root: none everywhere": of each kind of group, with all maxima, for every request within them and every list
   pub empty-root :
       (kind subject resource action : ℕ) → kind < 4
       → (q : List ℕ) → Within (maximum (emptyRoot kind subject resource action)) q
-      → (n : ℕ) → Rules (emptyRoot kind subject resource action) q n (ruled notApplicable 0) (zeros n)
+      → (n : ℕ) → GivesRuling (emptyRoot kind subject resource action) q n (ruled notApplicable 0) (zeros n)
   -- "20 places, root at 16.": in every room that has them
   pub empty-root-built :
       (kind subject resource action : ℕ) → kind < 4
-      → (n : ℕ) → 20 ≤ n → Builds (emptyRoot kind subject resource action) n (counted 20) (padded (emptyDiagram subject resource action) n)
+      → (n : ℕ) → 20 ≤ n → GivesDiagram (emptyRoot kind subject resource action) n (counted 20) (padded (emptyDiagram subject resource action) n)
   -- "T into 62 places: refusal 11."
-  pub t-into-62 : Builds (tableT 3) 62 (refused 11 0) (zeros 62)
+  pub t-into-62 : GivesDiagram (tableT 3) 62 (refused 11 0) (zeros 62)
   -- "Into 63: built."
-  pub t-into-63 : Builds (tableT 3) 63 (counted 63) diagramT
+  pub t-into-63 : GivesDiagram (tableT 3) 63 (counted 63) diagramT
   -- one place more, which becomes 0
-  pub t-into-64 : Builds (tableT 3) 64 (counted 63) (padded diagramT 64)
+  pub t-into-64 : GivesDiagram (tableT 3) 64 (counted 63) (padded diagramT 64)

@@ -1,32 +1,34 @@
 -- The three demands, as one claim about the definitions that the calls' contracts cite: a field for each clause.
 -- Assumes nothing: these are definitions.
-use mathlib.Core.Bool.{true}
+use mathlib.Core.Bool.{true, false}
 use mathlib.Core.List.{List, [], _++_}
 use mathlib.Core.Logic.{_↔_}
 use mathlib.Core.Path.{_≡_}
 use Prim.Native.Nat.{ℕ, _≤_, _<_}
 use lib.ListN.{length, getD, take}
 use Rattle.answer.specs.Fields.{fields}
-use Rattle.answer.specs.Answers.{ruled, padded}
-use Rattle.answer.specs.Requests.{Within}
-use Rattle.answer.specs.Rulings.{Ruling}
+use Rattle.answer.specs.Answers.{refused, counted, zeros, padded}
+use Rattle.answer.specs.Refusals.{Answers}
+use Rattle.answer.specs.Order.{IsRequest}
+use Rattle.answer.specs.Rulings.{Ruling, answerOf}
 use Rattle.answer.specs.declared.Answer.{Answer}
 use Rattle.table.specs.Layout.{Bytes, maximum, maxima, count, card}
 use Rattle.table.specs.Tree.{Above}
-use Rattle.table.specs.Reading.{reading, Accepted}
+use Rattle.table.specs.Reading.{tableRefusals, reading, Accepted}
+use Rattle.ruling.specs.Forest.{under, childrenOf, trees}
 use Rattle.ruling.specs.Targets.{targetHolds, applies}
 use Rattle.ruling.specs.Meaning.{matches, matching}
 use Rattle.ruling.specs.AsWorded.{decisionAsWorded}
-use Rattle.ruling.specs.Ruling.{groups, ruling, ruledList}
+use Rattle.ruling.specs.Ruling.{groups, rulingRefusals, ruling, ruledList}
 use Rattle.diagram.specs.Layout.{used}
-use Rattle.diagram.specs.LookedUp.{lookedUp, lookedUpList}
-use Rattle.building.specs.Built.{diagramOf, built, builtDiagram}
-use Rattle.kolfsein.specs.Refusals.{TableFault, RulingFault, BuildFault, LookUpFault, RoomFault, Refuses}
+use Rattle.diagram.specs.LookUp.{ruledBy}
+use Rattle.diagram.specs.Sound.{Sound}
+use Rattle.diagram.specs.LookedUp.{diagramRefusal, lookUpRefusals, lookedUp, lookedUpList}
+use Rattle.building.specs.Built.{diagramOf, roomRefusal, buildRefusals, built, builtDiagram}
 
 -- "A question is one value for each field", "within its fields when each value is at most its field's maximum"
-pub record WithinFields (t q : List ℕ) : Type 0 where
-  pub one-each : length q ≡ fields
-  pub within : Within (maximum t) q
+abbrev pub WithinFields : List ℕ → List ℕ → Type 0
+WithinFields t q = IsRequest (maximum t) q
 
 -- "A list is long enough when its length is at least that count", the number of matching rules
 abbrev pub LongEnough : List ℕ → List ℕ → ℕ → Type 0
@@ -35,11 +37,12 @@ LongEnough t q n = length (groups t q .cards) ≤ n
 -- "A ruling has number 0 and place 0": this answer, and this list of n places, have the decision, the count and the cards of ruling r,
 -- "then zeros to the list's end"
 pub record Rules (a : Answer) (list : List ℕ) (r : Ruling) (n : ℕ) : Type 0 where
-  pub answer : a ≡ ruled (r .decision) (length (r .cards))
+  pub answer : a ≡ answerOf r
   pub cards : list ≡ padded (r .cards) n
 
 -- "A diagram is built when a build from an accepted table succeeds": into n places
 pub record Builds (t : List ℕ) (n : ℕ) : Type 0 where
+  -- a table is "Bytes"; of a list of numbers it must be said, since no refusal asks that a maximum is at most 255
   pub bytes : Bytes t
   pub accepted : Accepted t
   pub succeeds : built t n .number ≡ 0
@@ -54,14 +57,28 @@ abbrev pub RuleAlike : List ℕ → List ℕ → Type 0
 RuleAlike t u =
     (q : List ℕ) → WithinFields t q → (groups t q .decision ≡ groups u q .decision) × (groups t q .cards ≡ groups u q .cards)
 
+-- what a call writes that is lent nothing to write
+abbrev pub nothing : Unit {0}
+nothing = tt
+
 pub record Demands : Type 0 where
   -- Demand 1: "If a table, a diagram, a question or a lent list is faulty or too short in a way document 01 names, the call returns the
-  -- number given there and leaves zeros throughout what it was lent to write", for each of the four calls, the first of which is lent nothing.
+  -- number given there and leaves zeros throughout what it was lent to write", for each of the four calls, the first of which is lent nothing:
+  -- by its refusals in their order, each "returned where its condition holds and none earlier in this order does, and at no other time".
   -- "every call ends, on all inputs, and expects no check made beforehand": each is proved to end, and none has a requirement.
-  pub reading-refuses : (t : List ℕ) → Refuses (TableFault t) (reading t) [] 0
-  pub ruling-refuses : (t q : List ℕ) (n : ℕ) → Refuses (RulingFault t q n) (ruling t q n) (ruledList t q n) n
-  pub build-refuses : (t : List ℕ) (n : ℕ) → Refuses (BuildFault t n) (built t n) (builtDiagram t n) n
-  pub look-up-refuses : (d q : List ℕ) (n : ℕ) → Refuses (LookUpFault d q n) (lookedUp d q n) (lookedUpList d q n) n
+  pub reading-refuses : (t : List ℕ) → Answers (tableRefusals t) refused nothing (counted (count t)) nothing (reading t) nothing
+  pub ruling-refuses : (t q : List ℕ) (n : ℕ) →
+      Answers (rulingRefusals t q n) refused (zeros n) (answerOf (groups t q)) (padded (groups t q .cards) n) (ruling t q n) (ruledList t q n)
+  pub build-refuses : (t : List ℕ) (n : ℕ) →
+      Answers (buildRefusals t n) refused (zeros n) (counted (length (diagramOf t))) (padded (diagramOf t) n) (built t n) (builtDiagram t n)
+  pub look-up-refuses : (d q : List ℕ) (n : ℕ) →
+      Answers (lookUpRefusals d q n) refused (zeros n) (answerOf (ruledBy d q)) (padded (ruledBy d q .cards) n) (lookedUp d q n) (lookedUpList d q n)
+  -- "diagram not sound": the condition of 12
+  pub unsound-refused : (d : List ℕ) → (diagramRefusal d .when ≡ true) ↔ (Sound fields d → ⊥)
+  -- "Success has number 0 and place 0", "a reading alone counts nodes, a build counts places used, both with decision 0"
+  pub reading-counts : (t : List ℕ) → Accepted t → reading t ≡ record { number = 0; decision = 0; place = 0; count = count t }
+  pub build-counts : (t : List ℕ) (room : ℕ) → Builds t room →
+      built t room ≡ record { number = 0; decision = 0; place = 0; count = used (builtDiagram t room) }
   -- Demand 2: "Every accepted question gets the decision that the four combining ways give, as document 01 restates them, with every
   -- matching card in table order, the true count, and zeros in the rest of the list."
   pub question-ruled : (t q : List ℕ) (n : ℕ) → Accepted t → WithinFields t q → LongEnough t q n →
@@ -71,6 +88,8 @@ pub record Demands : Type 0 where
   -- "A rule matches when its own target and every target above it hold": the node's own and those of its parents
   pub applies-worded : (t q : List ℕ) (i : ℕ) → Accepted t → i < count t →
       (applies t q i ≡ true) ↔ ((j : ℕ) → Above t i j → targetHolds t q j ≡ true)
+  -- "a group asks its children, and a child that is a group asks its own in turn": the nodes whose parent it is, each with those under it
+  pub children-worded : (t : List ℕ) (i : ℕ) → Accepted t → i < count t → under t i ≡ trees t (childrenOf t i)
   -- "every matching card in table order": a matching rule's card stands after those of the rules that match before it
   pub cards-in-order : (t q : List ℕ) (i : ℕ) → i < count t → matches (applies t q) t i ≡ true →
       getD (groups t q .cards) (matching (applies t q) t i) 0 ≡ card t i
@@ -78,7 +97,7 @@ pub record Demands : Type 0 where
   pub true-count : (t q : List ℕ) → length (groups t q .cards) ≡ matching (applies t q) t (count t)
   -- Demand 3: "Through a diagram built here from any accepted table, in whatever room was lent, any question within the table's fields,
   -- asked with any list long enough for its cards, gets a ruling whose decision, count and list, number for number, are the ones the groups
-  -- give to that question": in "any slice that starts with this used part [..], whatever follows it"
+  -- give to that question". "Any slice that starts with this used part is the same built diagram, whatever follows it"
   pub diagram-rules : (t : List ℕ) (room : ℕ) → Builds t room → (following q : List ℕ) (n : ℕ) → WithinFields t q → LongEnough t q n →
       let d = usedPart t room ++ following in Rules (lookedUp d q n) (lookedUpList d q n) (groups t q) n
   -- "and the used parts of two built diagrams, from any two accepted tables, are equal number for number exactly when the tables have the
@@ -86,7 +105,7 @@ pub record Demands : Type 0 where
   pub equal-exactly : (t u : List ℕ) (room other : ℕ) → Builds t room → Builds u other →
       (usedPart t room ≡ usedPart u other) ↔ ((maxima t ≡ maxima u) × RuleAlike t u)
   -- "succeeds, as it does wherever 11 doesn't apply"
-  pub build-succeeds : (t : List ℕ) (room : ℕ) → Accepted t → (RoomFault t room 11 0 → ⊥) → built t room .number ≡ 0
+  pub build-succeeds : (t : List ℕ) (room : ℕ) → Accepted t → roomRefusal t room .when ≡ false → built t room .number ≡ 0
   -- "is the diagram that the walk gives"; "Places past the used ones become 0"
   pub used-part-walked : (t : List ℕ) (room : ℕ) → Builds t room → usedPart t room ≡ diagramOf t
   pub zeros-after : (t : List ℕ) (room : ℕ) → Builds t room → builtDiagram t room ≡ padded (usedPart t room) room

@@ -10,10 +10,10 @@ use borrow.Author.Tests.{lt-ltb, le-ltb, ltb-true, ltb-false}
 use lib.Dec.{ltb}
 use lib.ListN.{length, length-append}
 use Rattle.listing.specs.Text.{decimalUpTo, decimal}
-use Rattle.listing.specs.Written.{Room, Written}
-use Rattle.listing.proofs.Writing.{room-first, room-rest, written-join}
+use Rattle.listing.specs.Written.{RoomFor, Written}
+use Rattle.listing.proofs.Writing.{room-first, room-rest, written-as, written-join}
 
--- one step, by whether it is a digit
+-- one step of the digits, by whether the number is one digit
 step : (k n : ℕ) (b : Bool) → ltb n 10 ≡ b → decimalUpTo (suc k) n ≡ cond b ((48 + n) ∷ []) (decimalUpTo k (n / 10) ++ (48 + n % 10) ∷ [])
 unfolding decimalUpTo
 step k n b e = ap (λ (x : Bool). cond x ((48 + n) ∷ []) (decimalUpTo k (n / 10) ++ (48 + n % 10) ∷ [])) e
@@ -32,12 +32,12 @@ enough (suc k) (suc j) n h g = by (ltb n 10) refl (λ l. enough k j (n / 10) (om
     by false e r =
         step k n false e ∙ ap (λ (l : List ℕ). l ++ (48 + n % 10) ∷ []) (r (ltb-false n 10 e)) ∙ sym (step j n false e)
 
--- a digit
+-- the digits of a number of one digit
 pub decimal-digit : (n : ℕ) → n < 10 → decimal n ≡ (48 + n) ∷ []
 unfolding decimal
 decimal-digit n h = step n n true (lt-ltb n 10 h)
 
--- the digits of a tenth, and the last one
+-- the digits of any other: those of a tenth, and the last one
 pub decimal-more : (n : ℕ) → 10 ≤ n → decimal n ≡ decimal (n / 10) ++ (48 + n % 10) ∷ []
 unfolding decimal
 decimal-more n h =
@@ -59,23 +59,21 @@ decimal-short (suc k) n h = by (ltb n 10) refl (decimal-short k (n / 10))
           r (div-lt-iff-lt-mul {k = 10} (omega arith) .1 (omega arith)),
         )
 
-module _ (n : ℕ) (t : List ℕ) (a : ℕ) where
+module _ (n : ℕ) where
   -- a digit is written
-  module _ (h : n < 10) where
-    pub digit-room : Room t a (decimal n) → Room t a ((48 + n) ∷ [])
-    digit-room r = subst (Room t a) (decimal-digit n h) r
+  pub digit-room : (t : List ℕ) (a : ℕ) → n < 10 → RoomFor t a (decimal n) → RoomFor t a ((48 + n) ∷ [])
+  digit-room t a h r = subst (RoomFor t a) (decimal-digit n h) r
 
-    pub digit-written : (u : List ℕ) (b : ℕ) → Written t u a b ((48 + n) ∷ []) → Written t u a b (decimal n)
-    digit-written u b w = subst (Written t u a b) (sym (decimal-digit n h)) w
+  pub digit-written : n < 10 → {t u : List ℕ} {a b : ℕ} → Written t u a b ((48 + n) ∷ []) → Written t u a b (decimal n)
+  digit-written h w = written-as w (sym (decimal-digit n h))
 
   -- the digits of a tenth are written, and the last one
-  module _ (h : 10 ≤ n) where
-    pub tenth-room : Room t a (decimal n) → Room t a (decimal (n / 10))
-    tenth-room r = room-first t a (decimal (n / 10)) ((48 + n % 10) ∷ []) (subst (Room t a) (decimal-more n h) r)
+  pub tenth-room : (t : List ℕ) (a : ℕ) → 10 ≤ n → RoomFor t a (decimal n) → RoomFor t a (decimal (n / 10))
+  tenth-room t a h r = room-first t a (decimal (n / 10)) ((48 + n % 10) ∷ []) (subst (RoomFor t a) (decimal-more n h) r)
 
-    module _ (u : List ℕ) (b : ℕ) (w : Written t u a b (decimal (n / 10))) where
-      pub last-room : Room t a (decimal n) → Room u b ((48 + n % 10) ∷ [])
-      last-room r = room-rest w ((48 + n % 10) ∷ []) (subst (Room t a) (decimal-more n h) r)
+  module _ (h : 10 ≤ n) {t u : List ℕ} {a b : ℕ} (w : Written t u a b (decimal (n / 10))) where
+    pub last-room : RoomFor t a (decimal n) → RoomFor u b ((48 + n % 10) ∷ [])
+    last-room r = room-rest w ((48 + n % 10) ∷ []) (subst (RoomFor t a) (decimal-more n h) r)
 
-      pub last-written : (v : List ℕ) (e : ℕ) → Written u v b e ((48 + n % 10) ∷ []) → Written t v a e (decimal n)
-      last-written v e x = subst (Written t v a e) (sym (decimal-more n h)) (written-join w ((48 + n % 10) ∷ []) x)
+    pub last-written : {v : List ℕ} {e : ℕ} → Written u v b e ((48 + n % 10) ∷ []) → Written t v a e (decimal n)
+    last-written x = written-as (written-join w ((48 + n % 10) ∷ []) x) (sym (decimal-more n h))

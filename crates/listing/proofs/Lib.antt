@@ -9,6 +9,7 @@ pub mod PathRanges
 pub mod LineFits
 pub mod NextPath
 pub mod NextIsLater
+pub mod RequestsLeft
 pub mod LineWritten
 pub mod Filling
 pub mod EdgeByFirst

@@ -25,7 +25,7 @@ use Rattle.listing.proofs.PathRanges.{ranges-short}
 abbrev pub Small : List ℕ → Type 0
 Small l = (i : ℕ) → getD l i 0 < 65536
 
--- a part of them
+-- a part of such numbers
 pub small-part : (l : List ℕ) → Small l → (from n : ℕ) → Small (take n (drop from l))
 small-part l h from n i =
     ⊎-elim

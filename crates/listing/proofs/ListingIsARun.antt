@@ -89,8 +89,8 @@ covers-line d v rs p a =
 module _ (d v : List ℕ) (rs : List Range) (n p : ℕ) (a : Leads d v rs p) (under : ℕ → List ℕ)
     (first : (j : ℕ) → j < edgesAt d p → edge d p (firstAt d p j) ≡ j)
     (each : (j : ℕ) → j < edgesAt d p → Covers d (v ++ firstAt d p j ∷ []) n (childAt d p j) (under j)) where
-  -- up to the last request of edge j
-  record Passed (j : ℕ) (lines : List ℕ) : Type 0 where
+  -- the lines of the edges up to edge j are a run, which ends with that edge's last request
+  record EdgesPassed (j : ℕ) (lines : List ℕ) : Type 0 where
     last : List ℕ
     over : nextFrom d (childAt d p j) last ≡ ends (zeros n)
     run : Run d (v ++ zeros (suc n)) lines (nextOf d (v ++ firstAt d p j ∷ last))
@@ -99,7 +99,7 @@ module _ (d v : List ℕ) (rs : List Range) (n p : ℕ) (a : Leads d v rs p) (un
       nextFrom d (child d p (firstAt d p j)) last ≡ ends (zeros n)
   below-over j last h o = ap (λ (k : ℕ). nextFrom d (childAt d p k) last) (first j h) ∙ o
 
-  -- the next edge
+  -- after the last request of edge j follows the first of the next edge
   to-next : (j : ℕ) (last : List ℕ) → j + 1 < edgesAt d p → nextFrom d (childAt d p j) last ≡ ends (zeros n) →
       nextOf d (v ++ firstAt d p j ∷ last) ≡ follows (v ++ firstAt d p (j + 1) ∷ zeros n)
   unfolding nextFrom
@@ -113,7 +113,7 @@ module _ (d v : List ℕ) (rs : List Range) (n p : ℕ) (a : Leads d v rs p) (un
       ap (λ (y : ℕ). firstAt d p (y + 1) ∷ below .values) (first j (omega arith)) ∙ ap (λ (y : After). firstAt d p (j + 1) ∷ y .values) b in
       a .next (x ∷ last) (ap (λ (y : After). y .more) i) ∙ ap (λ (y : After). follows (v ++ y .values)) i ∙ ap (λ (l : List ℕ). follows (v ++ l)) k
 
-  -- edge j, from where its first value is followed by zeros
+  -- the lines of edge j are a run from its first value, followed by zeros
   one-edge : (j : ℕ) → j < edgesAt d p → (q : List ℕ) → q ≡ v ++ firstAt d p j ∷ zeros n →
       (last : List ℕ) × ((nextFrom d (childAt d p j) last ≡ ends (zeros n)) × Run d q (under j) (nextOf d (v ++ firstAt d p j ∷ last)))
   one-edge j h q e =
@@ -126,11 +126,11 @@ module _ (d v : List ℕ) (rs : List Range) (n p : ℕ) (a : Leads d v rs p) (un
         ),
       )
 
-  passed : (j : ℕ) → j < edgesAt d p → Passed j (inOrder under (suc j))
+  passed : (j : ℕ) → j < edgesAt d p → EdgesPassed j (inOrder under (suc j))
   unfolding inOrder
   passed zero h = let o = one-edge 0 h (v ++ zeros (suc n)) refl in record { last = o .0; over = o .1 .0; run = o .1 .1 }
   passed (suc j) h =
-      let b : Passed j (inOrder under (suc j)) = passed j (omega arith) in
+      let b : EdgesPassed j (inOrder under (suc j)) = passed j (omega arith) in
       let q : List ℕ = v ++ firstAt d p (suc j) ∷ zeros n in
       let e : nextOf d (v ++ firstAt d p j ∷ b .last) ≡ follows q =
       to-next j (b .last) (omega arith) (b .over) ∙ ap (λ (k : ℕ). follows (v ++ firstAt d p k ∷ zeros n)) (add-one j) in
@@ -143,11 +143,11 @@ module _ (d v : List ℕ) (rs : List Range) (n p : ℕ) (a : Leads d v rs p) (un
             (under (suc j)) (nextOf d (v ++ firstAt d p (suc j) ∷ o .0)) (o .1 .1);
       }
 
-  -- all of them
+  -- the lines of all edges of the node
   covers-node : (m : ℕ) → edgesAt d p ≡ suc m → Covers d v (suc n) p (inOrder under (edgesAt d p))
   unfolding nextFrom
   covers-node m e =
-      let b : Passed m (inOrder under (suc m)) = passed m (omega arith) in
+      let b : EdgesPassed m (inOrder under (suc m)) = passed m (omega arith) in
       let x : ℕ = firstAt d p m in
       let below : After = nextFrom d (child d p x) (b .last) in
       let o : below ≡ ends (zeros n) = below-over m (b .last) (omega arith) (b .over) in

@@ -1,23 +1,23 @@
--- The first request after a path is within the maxima, and later in rising order.
+-- The first request after a path is within the maxima, and comes after those of the path.
 -- Assumes nothing.
 use mathlib.Core.Path.{_≡_, refl, sym, ap, _∙_, subst}
 use mathlib.Core.Bool.{Bool, true, false, false≢true}
-use mathlib.Core.Logic.{⊎-elim}
+use mathlib.Core.Logic.{inl, inr, ⊎-elim}
 use mathlib.Core.List.{List, [], _∷_}
-use Prim.Native.Nat.{ℕ, zero, suc, _+_, _*_, _^_, _≤_, _<_}
+use Prim.Native.Nat.{ℕ, zero, suc, _+_, _≤_, _<_}
 use native.Mathlib.Omega.{arith}
-use native.Mathlib.Nat.{pow-succ', suc-mul, mul-le-mul-right}
 use native.Mathlib.Numerals.{add-one}
 use lib.ListN.{length, getD}
 use Rattle.answer.specs.Fields.{fields}
 use Rattle.answer.specs.Requests.{Within}
+use Rattle.answer.specs.Order.{Precedes}
 use Rattle.answer.proofs.Tests.{lt-or-ge}
 use Rattle.diagram.specs.Layout.{used, root, maximum, edgesAt, lastAt}
 use Rattle.diagram.specs.LookUp.{edge, child}
 use Rattle.diagram.specs.Sound.{EntryBefore, nextLevel, Sound}
 use Rattle.diagram.proofs.FirstEdge.{edge-reaches}
 use Rattle.diagram.proofs.Descent.{child-here}
-use Rattle.listing.specs.Paths.{firstAt, follows, ends, nextAt, nextFrom, nextOf, rank, Later}
+use Rattle.listing.specs.Paths.{firstAt, follows, ends, nextAt, nextFrom, nextOf, Later}
 use Rattle.listing.specs.declared.paths.After.{After}
 use Rattle.listing.proofs.Edges.{next-first-most}
 use Rattle.listing.proofs.NextPath.{at-below, at-next, at-last}
@@ -30,24 +30,9 @@ WithinFrom d f q = (g : ℕ) → g < length q → getD q g 0 ≤ maximum d (f + 
 record Follows (d : List ℕ) (f : ℕ) (q : List ℕ) (n : After) : Type 0 where
   long : length (n .values) ≡ length q
   within : WithinFrom d f (n .values)
-  rises : n .more ≡ true → rank q < rank (n .values)
+  rises : n .more ≡ true → Precedes q (n .values)
 
-rank-more : (v : ℕ) (q : List ℕ) → rank (v ∷ q) ≡ v * 256 ^ length q + rank q
-unfolding rank
-rank-more v q = refl
-
--- a later first value counts for more than all that follows it
-first-counts : (v w a P : ℕ) → v < w → a < P → v * P + a < w * P
-first-counts v w a P h g = omega (arith, suc-mul v P, mul-le-mul-right {m = suc v} {n = w} P (omega arith))
-
-rank-bounded : (q : List ℕ) → ((g : ℕ) → g < length q → getD q g 0 ≤ 255) → rank q < 256 ^ length q
-unfolding rank
-rank-bounded [] h = omega arith
-rank-bounded (v ∷ q) h =
-    let r : rank q < 256 ^ length q = rank-bounded q (λ g l. h (suc g) (omega arith)) in
-    omega (arith, first-counts v 256 (rank q) (256 ^ length q) (omega (arith, h 0 (omega arith))) r, pow-succ' 256 (length q))
-
--- one value more
+-- a value within the maximum of field f, before such values
 within-more : (d : List ℕ) (f v : ℕ) (q : List ℕ) → v ≤ maximum d f → WithinFrom d (f + 1) q → WithinFrom d f (v ∷ q)
 within-more d f v q m w zero l = let z : f ≡ f + 0 = omega arith in omega (arith, ap (maximum d) z)
 within-more d f v q m w (suc g) l = let z : f + 1 + g ≡ f + suc g = omega arith in omega (arith, w g (omega arith), ap (maximum d) z)
@@ -56,36 +41,31 @@ within-less : (d : List ℕ) (f v : ℕ) (q : List ℕ) → WithinFrom d f (v �
 within-less d f v q w g l = let z : f + suc g ≡ f + 1 + g = omega arith in omega (arith, w (suc g) (omega arith), ap (maximum d) z)
 
 module _ (d : List ℕ) (s : Sound fields d) where
-  small : (f : ℕ) (q : List ℕ) → f + length q ≡ fields → WithinFrom d f q → (g : ℕ) → g < length q → getD q g 0 ≤ 255
-  small f q e w g l = omega (arith, w g l, s .maxima (f + g) (omega arith))
-
   -- at one node, by what follows below and by whether an edge follows
   module _ (p f v : ℕ) (q : List ℕ) (n : f + suc (length q) ≡ fields) (w : WithinFrom d f (v ∷ q))
       (e : EntryBefore fields d (used d) (nextLevel fields f) p) (below : After) (a : Follows d (f + 1) q below) where
     here : v ≤ maximum d f
     here = let z : f + 0 ≡ f = omega arith in omega (arith, w 0 (omega arith), ap (maximum d) z)
 
-    same : (x : ℕ) → rank (x ∷ below .values) ≡ x * 256 ^ length q + rank (below .values)
-    same x = rank-more x (below .values) ∙ ap (λ (k : ℕ). x * 256 ^ k + rank (below .values)) (a .long)
-
     by-below : below .more ≡ true → Follows d f (v ∷ q) (follows (v ∷ below .values))
+    unfolding Precedes
     by-below m =
         record {
           long = ap suc (a .long);
           within = within-more d f v (below .values) here (a .within);
-          rises = λ t. omega (arith, a .rises m, rank-more v q, same v);
+          rises = λ t. inr (refl, a .rises m);
         }
 
     by-next : edge d p v + 1 < edgesAt d p → Follows d f (v ∷ q) (follows (firstAt d p (edge d p v + 1) ∷ below .values))
+    unfolding Precedes
     by-next l =
         let j : ℕ = edge d p v in
         let x : ℕ = firstAt d p (j + 1) in
         let z : x ≡ lastAt d p j + 1 = ap (firstAt d p) (add-one j) in
-        let r : rank q < 256 ^ length q = rank-bounded q (small (f + 1) q (omega arith) (within-less d f v q w)) in
         record {
           long = ap suc (a .long);
           within = within-more d f x (below .values) (next-first-most d s p f e (omega arith) j l) (a .within);
-          rises = λ t. omega (arith, edge-reaches d p v (omega arith), first-counts v x (rank q) (256 ^ length q) (omega (arith, edge-reaches d p v (omega arith))) r, rank-more v q, same x);
+          rises = λ t. inl (omega (arith, edge-reaches d p v (omega arith)));
         }
 
     by-last : Follows d f (v ∷ q) (ends (0 ∷ below .values))
@@ -118,14 +98,12 @@ module _ (d : List ℕ) (s : Sound fields d) where
   next-is-later q n l w e m =
       let w′ : WithinFrom d 0 q = λ g h. let z : 0 + g ≡ g = omega arith in omega (arith, w g (omega arith), ap (maximum d) z) in
       let a : Follows d 0 q n = subst (Follows d 0 q) (sym e) (next-follows q 0 (root d) (omega arith) w′ (s .root-entry)) in
-      let b : rank (n .values) < 256 ^ length (n .values) = rank-bounded (n .values) (small 0 (n .values) (omega (arith, a .long)) (a .within)) in
       record {
-        within = λ f h. let z : 0 + f ≡ f = omega arith in omega (arith, a .within f (omega (arith, a .long)), ap (maximum d) z);
+        request = (a .long ∙ l, λ f h. let z : 0 + f ≡ f = omega arith in omega (arith, a .within f (omega (arith, a .long)), ap (maximum d) z));
         rises = a .rises m;
-        bounded = omega (arith, b, ap (λ (k : ℕ). 256 ^ k) (a .long ∙ l));
       }
 
--- an answer is its two parts
+-- answers with equal parts are equal
 pub after-is : (a b : After) → (a .more ≡ b .more) × (a .values ≡ b .values) → a ≡ b
 after-is a b e =
     ap (λ (m : Bool). record { more = m; values = a .values }) (e .0)

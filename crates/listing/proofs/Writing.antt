@@ -7,13 +7,13 @@ use native.Mathlib.Omega.{arith}
 use lib.ListN.{length, length-append}
 use lib.Seq.{sets, length-sets}
 use Rattle.answer.proofs.Stored.{stored-join}
-use Rattle.listing.specs.Written.{Room, Written}
+use Rattle.listing.specs.Written.{RoomFor, Written}
 
 module _ (t : List ℕ) (a : ℕ) where
   pub none-written : Written t t a a []
   none-written = record { stands = refl; ends = omega arith }
 
-  pub room-first : (xs ys : List ℕ) → Room t a (xs ++ ys) → Room t a xs
+  pub room-first : (xs ys : List ℕ) → RoomFor t a (xs ++ ys) → RoomFor t a xs
   room-first xs ys h = omega (arith, length-append xs ys)
 
 module _ {t u : List ℕ} {a b : ℕ} {xs : List ℕ} (w : Written t u a b xs) where
@@ -21,16 +21,16 @@ module _ {t u : List ℕ} {a b : ℕ} {xs : List ℕ} (w : Written t u a b xs) w
   pub written-long : length u ≡ length t
   written-long = ap length (w .stands) ∙ length-sets t a xs
 
-  pub room-rest : (ys : List ℕ) → Room t a (xs ++ ys) → Room u b ys
+  pub room-rest : (ys : List ℕ) → RoomFor t a (xs ++ ys) → RoomFor u b ys
   room-rest ys h = omega (arith, length-append xs ys, written-long, w .ends)
 
-  pub room-between : (ys zs : List ℕ) → Room t a (xs ++ (ys ++ zs)) → Room u b ys
+  pub room-between : (ys zs : List ℕ) → RoomFor t a (xs ++ (ys ++ zs)) → RoomFor u b ys
   room-between ys zs h = room-first u b ys zs (room-rest (ys ++ zs) h)
 
   pub written-as : {ys : List ℕ} → xs ≡ ys → Written t u a b ys
   written-as e = subst (Written t u a b) e w
 
-  -- some bytes, and then others
+  -- writing xs and then ys is writing both at once
   pub written-join : {v : List ℕ} {e : ℕ} (ys : List ℕ) → Written u v b e ys → Written t v a e (xs ++ ys)
   written-join {v} {e} ys x =
       record {
@@ -48,24 +48,26 @@ pub record Partly (t : List ℕ) (a : ℕ) (all u : List ℕ) (b : ℕ) (rest : 
   pub splits : done ++ rest ≡ all
   pub written : Written t u a b done
 
-module _ (t : List ℕ) (a : ℕ) (all : List ℕ) where
-  pub partly-none : (rest : List ℕ) → rest ≡ all → Partly t a all t a rest
-  partly-none rest e = record { done = []; splits = e; written = none-written t a }
+module _ {t : List ℕ} {a : ℕ} {all : List ℕ} where
+  pub partly-none : {rest : List ℕ} → rest ≡ all → Partly t a all t a rest
+  partly-none e = record { done = []; splits = e; written = none-written t a }
 
-  module _ (u : List ℕ) (b : ℕ) where
+  module _ {u : List ℕ} {b : ℕ} {left : List ℕ} (p : Partly t a all u b left) where
+    -- the rest, where its first bytes are xs
+    splits-further : (xs rest : List ℕ) → left ≡ xs ++ rest → all ≡ p .done ++ (xs ++ rest)
+    splits-further xs rest s = sym (p .splits) ∙ ap (λ (l : List ℕ). p .done ++ l) s
+
     -- there is room for the first bytes of the rest
-    pub partly-first : (xs rest left : List ℕ) → left ≡ xs ++ rest → Partly t a all u b left → Room t a all → Room u b xs
-    partly-first xs rest left s p h =
-        room-first u b xs rest (room-rest (p .written) (xs ++ rest) (subst (Room t a) (sym (p .splits) ∙ ap (λ (l : List ℕ). p .done ++ l) s) h))
+    pub partly-first : (xs rest : List ℕ) → left ≡ xs ++ rest → RoomFor t a all → RoomFor u b xs
+    partly-first xs rest s h = room-between (p .written) xs rest (subst (RoomFor t a) (splits-further xs rest s) h)
 
-    pub partly-more : (xs rest left : List ℕ) (v : List ℕ) (e : ℕ) → left ≡ xs ++ rest → Partly t a all u b left → Written u v b e xs → Partly t a all v e rest
-    partly-more xs rest left v e s p w =
+    pub partly-more : {xs rest v : List ℕ} {e : ℕ} → left ≡ xs ++ rest → Written u v b e xs → Partly t a all v e rest
+    partly-more {xs} {rest} s w =
         record {
           done = p .done ++ xs;
-          splits = append-assoc (p .done) xs rest ∙ ap (λ (l : List ℕ). p .done ++ l) (sym s) ∙ p .splits;
+          splits = append-assoc (p .done) xs rest ∙ sym (splits-further xs rest s);
           written = written-join (p .written) xs w;
         }
 
-    pub partly-all : (left : List ℕ) → left ≡ [] → Partly t a all u b left → Written t u a b all
-    partly-all left e p =
-        subst (Written t u a b) (sym (append-nil (p .done)) ∙ ap (λ (l : List ℕ). p .done ++ l) (sym e) ∙ p .splits) (p .written)
+    pub partly-all : left ≡ [] → Written t u a b all
+    partly-all e = written-as (p .written) (sym (splits-further [] [] e ∙ append-nil (p .done)))

@@ -2,11 +2,11 @@
 -- Assumes nothing: these are definitions.
 use mathlib.Core.Bool.{true, false, cond}
 use mathlib.Core.List.{List, [], _∷_}
-use Prim.Native.Nat.{ℕ, zero, suc, _+_, _*_, _^_, _<_}
+use Prim.Native.Nat.{ℕ, zero, suc, _+_}
 use lib.Dec.{ltb}
-use lib.ListN.{length, take, drop}
+use lib.ListN.{take, drop}
 use Rattle.answer.specs.Fields.{fields}
-use Rattle.answer.specs.Requests.{Within}
+use Rattle.answer.specs.Order.{IsRequest, Precedes}
 use Rattle.diagram.specs.Layout.{root, maximum, edgesAt, lastAt}
 use Rattle.diagram.specs.LookUp.{edge, child, ruledBy}
 use Rattle.listing.specs.Text.{Range, fieldsLine, line}
@@ -17,7 +17,7 @@ abbrev pub firstAt : List ℕ → ℕ → ℕ → ℕ
 firstAt d p zero = 0
 firstAt d p (suc j) = lastAt d p j + 1
 
--- all its values
+-- all values of edge j of the node at p
 abbrev pub rangeAt : List ℕ → ℕ → ℕ → Range
 rangeAt d p j = record { low = firstAt d p j; high = lastAt d p j }
 
@@ -30,15 +30,15 @@ pathFrom d p (v ∷ q) = rangeAt d p (edge d p v) ∷ pathFrom d (child d p v) q
 abbrev pub pathOf : List ℕ → List ℕ → List Range
 pathOf d q = pathFrom d (root d) q
 
--- its line
+-- the line of the path that request q takes
 abbrev pub lineOf : List ℕ → List ℕ → List ℕ
 lineOf d q = line (pathOf d q) (ruledBy d q)
 
--- "the maxima"
+-- "the word `fields` and the maxima": the maxima
 abbrev pub maximaOf : List ℕ → List ℕ
 maximaOf d = take fields (drop 2 d)
 
--- the first line
+-- the first line of a listing
 abbrev pub firstLine : List ℕ → List ℕ
 firstLine d = fieldsLine (maximaOf d)
 
@@ -66,17 +66,7 @@ nextFrom d p (v ∷ q) = nextAt d p v (nextFrom d (child d p v) q)
 abbrev pub nextOf : List ℕ → List ℕ → After
 nextOf d q = nextFrom d (root d) q
 
--- where a request with values up to 255 stands in rising order
-unfoldable pub rank : List ℕ → ℕ
-rank [] = 0
-rank (v ∷ q) = v * 256 ^ length q + rank q
-
--- how many requests there are with values up to 255
-abbrev pub requests : ℕ
-requests = 256 ^ fields
-
--- A request q′ that follows request q is one of the diagram's, and later.
+-- "in rising order": a request q′ that follows request q is one of the diagram's, and comes after q
 pub record Later (d q q′ : List ℕ) : Type 0 where
-  pub within : Within (maximum d) q′
-  pub rises : rank q < rank q′
-  pub bounded : rank q′ < requests
+  pub request : IsRequest (maximum d) q′
+  pub rises : Precedes q q′

@@ -12,7 +12,7 @@ unfoldable pub decimalUpTo : ℕ → ℕ → List ℕ
 decimalUpTo zero n = []
 decimalUpTo (suc k) n = cond (ltb n 10) ((48 + n) ∷ []) (decimalUpTo k (n / 10) ++ (48 + n % 10) ∷ [])
 
--- all of them, of which there are no more than n + 1
+-- all decimal digits of n, of which there are no more than n + 1
 unfoldable pub decimal : ℕ → List ℕ
 decimal n = decimalUpTo (suc n) n
 
@@ -35,7 +35,7 @@ fieldsWord = 102 ∷ 105 ∷ 101 ∷ 108 ∷ 100 ∷ 115 ∷ []
 abbrev pub refusedWord : List ℕ
 refusedWord = 114 ∷ 101 ∷ 102 ∷ 117 ∷ 115 ∷ 101 ∷ 100 ∷ space ∷ []
 
--- and between it and the place
+-- "as `refused 7 at 2`": what stands between the number and the place
 abbrev pub atWord : List ℕ
 atWord = space ∷ 97 ∷ 116 ∷ space ∷ []
 

@@ -7,8 +7,8 @@ use lib.ListN.{length}
 use lib.Seq.{sets}
 
 -- the text has room for the bytes from place `at` on
-abbrev pub Room : List ℕ → ℕ → List ℕ → Type 0
-Room text at bytes = at + length bytes ≤ length text
+abbrev pub RoomFor : List ℕ → ℕ → List ℕ → Type 0
+RoomFor text at bytes = at + length bytes ≤ length text
 
 -- The bytes stand from place `at` up to place `end`, and the rest of the text is as it was.
 pub record Written (before after : List ℕ) (at end : ℕ) (bytes : List ℕ) : Type 0 where

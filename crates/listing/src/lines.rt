@@ -17,7 +17,7 @@ ghost use Rattle.diagram.specs.Layout.{header, mostPlaces, maximum, edgesAt};
 ghost use Rattle.diagram.specs.Sound.{Sound};
 ghost use Rattle.diagram.specs.Landed.{Landed};
 ghost use Rattle.listing.specs.Text.{ranges, refusedLine, mostLine};
-ghost use Rattle.listing.specs.Written.{Room, Written};
+ghost use Rattle.listing.specs.Written.{RoomFor, Written};
 ghost use Rattle.listing.specs.Paths.{firstAt, pathOf, lineOf, firstLine};
 
 // The first line: the maxima.
@@ -67,7 +67,7 @@ struct Reached {
 fn put_path(diagram: &[u16], values: [u16; FIELDS], text: &mut [u8], at: usize) -> Reached
     requires { ⌜ Sound fields (now diagram) ⌝ }
     requires { ⌜ Within (maximum (now diagram)) values ⌝ }
-    requires { ⌜ Room (now text) at (ranges (pathOf (now diagram) values)) ⌝ }
+    requires { ⌜ RoomFor (now text) at (ranges (pathOf (now diagram) values)) ⌝ }
     ensures { λ r. ⌜ Landed (now (diagram .entry)) values (r .terminal) ⌝ }
     ensures { λ r. ⌜ Written (now (text .entry)) (now (text .exit)) at (r .end) (ranges (pathOf (now (diagram .entry)) values)) ⌝ }
 {
@@ -98,7 +98,7 @@ pub fn line(diagram: &[u16], values: [u16; FIELDS], text: &mut [u8], at: usize) 
 {
     let path = put_path(diagram, values, text, at);
     let place = path.terminal;
-    let end = put_decision(diagram[place + 1], text, path.end);
+    let end = put_decision(diagram[place + 1] as u8, text, path.end);
     let from = place + 3;
     let to = from + diagram[place + 2] as usize;
     let end = put_items(&diagram[from..to], text, end);

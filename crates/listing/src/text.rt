@@ -1,12 +1,13 @@
 // Writing the items of a line into a text, from a place on. Each call hands back the place after what it wrote.
+use combining::Decision;
 ghost use mathlib.Core.List.{[], _∷_};
 ghost use Prim.Native.Nat.{_≤_};
 ghost use Rattle.listing.specs.Text.{newline, decimal, decisionWord, range, items};
-ghost use Rattle.listing.specs.Written.{Room, Written};
+ghost use Rattle.listing.specs.Written.{RoomFor, Written};
 
 // One byte.
 pub(crate) fn put(byte: u8, text: &mut [u8], at: usize) -> usize
-    requires { ⌜ Room (now text) at (byte ∷ []) ⌝ }
+    requires { ⌜ RoomFor (now text) at (byte ∷ []) ⌝ }
     ensures { λ r. ⌜ Written (now (text .entry)) (now (text .exit)) at r (byte ∷ []) ⌝ }
 {
     text[at] = byte;
@@ -15,7 +16,7 @@ pub(crate) fn put(byte: u8, text: &mut [u8], at: usize) -> usize
 
 // The end of a line.
 pub(crate) fn end_line(text: &mut [u8], at: usize) -> usize
-    requires { ⌜ Room (now text) at (newline ∷ []) ⌝ }
+    requires { ⌜ RoomFor (now text) at (newline ∷ []) ⌝ }
     ensures { λ r. ⌜ Written (now (text .entry)) (now (text .exit)) at r (newline ∷ []) ⌝ }
 {
     put(b'\n', text, at)
@@ -23,7 +24,7 @@ pub(crate) fn end_line(text: &mut [u8], at: usize) -> usize
 
 // Some bytes.
 pub(crate) fn put_all(bytes: &[u8], text: &mut [u8], at: usize) -> usize
-    requires { ⌜ Room (now text) at (now bytes) ⌝ }
+    requires { ⌜ RoomFor (now text) at (now bytes) ⌝ }
     ensures { λ r. ⌜ Written (now (text .entry)) (now (text .exit)) at r (now (bytes .entry)) ⌝ }
 {
     let mut end = at;
@@ -37,7 +38,7 @@ pub(crate) fn put_all(bytes: &[u8], text: &mut [u8], at: usize) -> usize
 
 // A number's decimal digits: those of a tenth of it, then the last.
 pub(crate) fn put_decimal(number: usize, text: &mut [u8], at: usize) -> usize
-    requires { ⌜ Room (now text) at (decimal number) ⌝ }
+    requires { ⌜ RoomFor (now text) at (decimal number) ⌝ }
     ensures { λ r. ⌜ Written (now (text .entry)) (now (text .exit)) at r (decimal number) ⌝ }
 {
     if number < 10 {
@@ -48,22 +49,22 @@ pub(crate) fn put_decimal(number: usize, text: &mut [u8], at: usize) -> usize
 }
 
 // A decision's word.
-pub(crate) fn put_decision(decision: u16, text: &mut [u8], at: usize) -> usize
+pub(crate) fn put_decision(decision: u8, text: &mut [u8], at: usize) -> usize
     requires { ⌜ decision ≤ 3 ⌝ }
-    requires { ⌜ Room (now text) at (decisionWord decision) ⌝ }
+    requires { ⌜ RoomFor (now text) at (decisionWord decision) ⌝ }
     ensures { λ r. ⌜ Written (now (text .entry)) (now (text .exit)) at r (decisionWord decision) ⌝ }
 {
     match decision {
-        0 => put_all(b"none", text, at),
-        1 => put_all(b"may", text, at),
-        2 => put_all(b"not", text, at),
+        Decision::NOT_APPLICABLE => put_all(b"none", text, at),
+        Decision::PERMIT => put_all(b"may", text, at),
+        Decision::DENY => put_all(b"not", text, at),
         _ => put_all(b"unclear", text, at),
     }
 }
 
 // A range.
 pub(crate) fn put_range(low: usize, high: usize, text: &mut [u8], at: usize) -> usize
-    requires { ⌜ Room (now text) at (range low high) ⌝ }
+    requires { ⌜ RoomFor (now text) at (range low high) ⌝ }
     ensures { λ r. ⌜ Written (now (text .entry)) (now (text .exit)) at r (range low high) ⌝ }
 {
     let end = put_decimal(low, text, at);
@@ -73,7 +74,7 @@ pub(crate) fn put_range(low: usize, high: usize, text: &mut [u8], at: usize) -> 
 
 // Numbers, each after a space.
 pub(crate) fn put_items(numbers: &[u16], text: &mut [u8], at: usize) -> usize
-    requires { ⌜ Room (now text) at (items (now numbers)) ⌝ }
+    requires { ⌜ RoomFor (now text) at (items (now numbers)) ⌝ }
     ensures { λ r. ⌜ Written (now (text .entry)) (now (text .exit)) at r (items (now (numbers .entry))) ⌝ }
 {
     let mut end = at;

@@ -10,12 +10,13 @@ ghost use mathlib.Core.Path.{_≡_};
 ghost use Prim.Native.Nat.{_+_, _*_, _-_, _≤_, _<_};
 ghost use lib.ListN.{length};
 ghost use Rattle.answer.specs.Fields.{fields};
+ghost use Rattle.answer.specs.Answers.{zeros};
 ghost use Rattle.answer.specs.Requests.{Within};
 ghost use Rattle.diagram.specs.Layout.{mostPlaces, maximum, levelAt, edgesAt};
 ghost use Rattle.diagram.specs.LookUp.{edge, child};
 ghost use Rattle.diagram.specs.Sound.{SoundNode, Sound};
 ghost use Rattle.diagram.specs.Landed.{Landed};
-ghost use Rattle.diagram.specs.LookedUp.{lookedUp, lookedUpList};
+ghost use Rattle.diagram.specs.LookedUp.{soundLookedUp, soundLookedUpList, lookedUp, lookedUpList};
 
 // The edge of a value at the sound node at a place. Last values rise, so it is found by halving.
 pub fn edge_of(diagram: &[u16], place: usize, value: u16) -> usize
@@ -63,17 +64,15 @@ fn descend(diagram: &[u16], values: [u16; FIELDS]) -> usize
     place
 }
 
-// Rules on a request by a diagram: the decision, and in the list the terminal's cards, with zeros after them.
-pub fn look_up(diagram: &[u16], request: Request, cards: &mut [u16]) -> Answer
-    ensures { λ r. ⌜ r ≡ lookedUp (now (diagram .entry)) (request .values) (length (now (cards .entry))) ⌝ }
-    ensures { λ _. ⌜ now (cards .exit) ≡ lookedUpList (now (diagram .entry)) (request .values) (length (now (cards .entry))) ⌝ }
+// Rules on a request by a sound diagram, with a list that was cleared: refusals 9 and 10 in order, or the decision and the cards.
+pub fn look_up_sound(diagram: &[u16], request: Request, cards: &mut [u16]) -> Answer
+    requires { ⌜ Sound fields (now diagram) ⌝ }
+    requires { ⌜ now cards ≡ zeros (length (now cards)) ⌝ }
+    ensures { λ r. ⌜ r ≡ soundLookedUp (now (diagram .entry)) (request .values) (length (now (cards .entry))) ⌝ }
+    ensures { λ _. ⌜ now (cards .exit) ≡ soundLookedUpList (now (diagram .entry)) (request .values) (length (now (cards .entry))) ⌝ }
 {
-    clear(cards);
-    if !is_sound(diagram) {
-        return Answer::refused(12, 0);
-    }
     let values = request.values;
-    let field = field_fault(&diagram[2..2 + FIELDS], &values);
+    let field = field_fault(&diagram[2..2 + FIELDS], &values, 0);
     if field < FIELDS {
         return Answer::refused(9, field);
     }
@@ -86,4 +85,16 @@ pub fn look_up(diagram: &[u16], request: Request, cards: &mut [u16]) -> Answer
     let to = from + count;
     store(&diagram[from..to], cards);
     Answer::ruled(diagram[place + 1] as u8, count)
+}
+
+// Rules on a request by a diagram: the decision, and in the list the terminal's cards, with zeros after them.
+pub fn look_up(diagram: &[u16], request: Request, cards: &mut [u16]) -> Answer
+    ensures { λ r. ⌜ r ≡ lookedUp (now (diagram .entry)) (request .values) (length (now (cards .entry))) ⌝ }
+    ensures { λ _. ⌜ now (cards .exit) ≡ lookedUpList (now (diagram .entry)) (request .values) (length (now (cards .entry))) ⌝ }
+{
+    clear(cards);
+    if !is_sound(diagram) {
+        return Answer::refused(12, 0);
+    }
+    look_up_sound(diagram, request, cards)
 }

@@ -1,4 +1,4 @@
--- Laws of a node that applies, and of what holds above the next node: the first child, and the node after all under it.
+-- Laws of a node that applies.
 -- Assumes nothing.
 use mathlib.Core.Path.{_≡_}
 use mathlib.Core.Bool.{true, false}
@@ -9,7 +9,7 @@ use Rattle.table.specs.Tree.{endOf}
 use Rattle.table.specs.WellFormed.{WellFormed}
 use Rattle.ruling.specs.Targets.{targetHolds, applies}
 use Rattle.ruling.specs.Walk.{HoldAbove}
-use Rattle.ruling.proofs.Throughout.{throughout-where, throughout-each, throughout-under, throughout-is, throughout-down, pass-root, pass-child, pass-after}
+use Rattle.ruling.proofs.Throughout.{throughout-where, throughout-each, throughout-under, throughout-is, throughout-down, pass-down, pass-after}
 
 module _ (t q : List ℕ) where
   -- a node applies exactly where the target of each node that reaches over it holds
@@ -28,18 +28,18 @@ module _ (t q : List ℕ) where
   applies-under = throughout-under t (targetHolds t q)
 
   -- where every target above a node holds, it applies where its own does
-  pub applies-is : (i : ℕ) → HoldAbove t q i → 1 ≤ span t i → applies t q i ≡ targetHolds t q i
+  pub applies-is : (i : ℕ) → HoldAbove t (targetHolds t q) i → 1 ≤ span t i → applies t q i ≡ targetHolds t q i
   unfolding applies
   applies-is = throughout-is t (targetHolds t q)
 
-  pub above-root : HoldAbove t q 0
-  above-root = pass-root t (targetHolds t q)
+  -- where a node applies, every target above its first child holds
+  pub applies-above : (i : ℕ) → applies t q i ≡ true → HoldAbove t (targetHolds t q) (i + 1)
+  unfolding applies
+  applies-above = pass-down t (targetHolds t q)
 
-  pub above-child : (i : ℕ) → targetHolds t q i ≡ true → HoldAbove t q i → HoldAbove t q (i + 1)
-  above-child = pass-child t (targetHolds t q)
-
-  pub above-after : (i : ℕ) → WellFormed t → i < count t → HoldAbove t q i → HoldAbove t q (endOf t i)
-  above-after = pass-after t (targetHolds t q)
+  -- and where it holds above a node, so it does above the node after all under it
+  pub above-after : WellFormed t → (i s : ℕ) → i < count t → s ≡ span t i → HoldAbove t (targetHolds t q) i → HoldAbove t (targetHolds t q) (i + s)
+  above-after w i s l e h = rw e (pass-after t (targetHolds t q) i w l h)
 
   -- where a node does not apply, nothing under it does
   pub applies-down : WellFormed t → (i m : ℕ) → i < count t → i ≤ m → m < endOf t i → applies t q i ≡ false → applies t q m ≡ false

@@ -12,7 +12,7 @@ use Rattle.table.specs.Layout.{span, count}
 use Rattle.table.specs.Tree.{endOf}
 use Rattle.table.specs.WellFormed.{WellFormed}
 use Rattle.ruling.specs.Forest.{Forest, empty, node, forestWithin, run, under}
-use Rattle.ruling.specs.Walk.{Whole}
+use Rattle.ruling.specs.Walk.{SpansInside}
 
 -- a forest, by whether a node is left
 abbrev grown : List ℕ → ℕ → ℕ → ℕ → Bool → Forest
@@ -35,14 +35,14 @@ within-more n t i end h = ap (grown t n i end) (lt-ltb i end h)
 module _ (t : List ℕ) (w : WellFormed t) where
   -- the nodes under a node, and those after them
 
-  pub whole-under : (i : ℕ) → i < count t → Whole t (i + 1) (endOf t i)
+  pub whole-under : (i : ℕ) → i < count t → SpansInside t (i + 1) (endOf t i)
   whole-under i h = record { inside = w .inside i h; each = λ j a b. w .nested i j h (omega arith) b }
 
-  pub whole-after : (i end : ℕ) → Whole t i end → Whole t (endOf t i) end
+  pub whole-after : (i end : ℕ) → SpansInside t i end → SpansInside t (endOf t i) end
   whole-after i end r = record { inside = r .inside; each = λ j a b. r .each j (omega arith) b }
 
   -- any bound that is enough gives the same forest
-  enough : (m n i end : ℕ) → Whole t i end → end - i ≤ m → end - i ≤ n → forestWithin m t i end ≡ forestWithin n t i end
+  enough : (m n i end : ℕ) → SpansInside t i end → end - i ≤ m → end - i ≤ n → forestWithin m t i end ≡ forestWithin n t i end
   enough zero n i end r a b = within-none zero t i end (omega arith) ∙ sym (within-none n t i end (omega arith))
   enough (suc m) zero i end r a b =
       within-none (suc m) t i end (omega arith) ∙ sym (within-none zero t i end (omega arith))
@@ -64,7 +64,7 @@ module _ (t : List ℕ) (w : WellFormed t) where
   pub run-none : (i end : ℕ) → end ≤ i → run t i end ≡ empty
   run-none i end h = within-none (end - i) t i end h
 
-  pub run-more : (i end : ℕ) → Whole t i end → i < end → run t i end ≡ node i (under t i) (run t (endOf t i) end)
+  pub run-more : (i end : ℕ) → SpansInside t i end → i < end → run t i end ≡ node i (under t i) (run t (endOf t i) end)
   run-more i end r h =
       let c : i < count t = omega (arith, r .inside) in
       let one : 1 ≤ span t i = w .spans i c in

@@ -9,11 +9,10 @@ pub mod Cards
 pub mod Decisions
 pub mod Steps
 pub mod ChildByChild
-pub mod Outcome
 pub mod AppliesByParents
+pub mod ChildrenByParents
 pub mod CardsOfMatchingRules
 pub mod RulingGoesByWhichApply
-pub mod FirstRefusalOrRuling
 pub mod DecisionIsOneOfFour
 pub mod AtMost127Cards
 pub mod NoCardIsZero

@@ -6,7 +6,7 @@ use mathlib.Core.List.{List, _∷_}
 use Prim.Native.Nat.{ℕ, zero, suc, _+_, _-_, _≤_, _<_}
 use native.Mathlib.Omega.{arith}
 use Rattle.answer.specs.Rulings.{Ruling}
-use Rattle.combining.specs.Ways.{notApplicable, way}
+use Rattle.combining.specs.Ways.{notApplicable, Child, way}
 use Rattle.table.specs.Layout.{count, kind, card}
 use Rattle.table.specs.Tree.{endOf, isRule}
 use Rattle.table.specs.Reading.{Accepted}
@@ -14,28 +14,29 @@ use Rattle.table.specs.WellFormed.{WellFormed}
 use Rattle.table.proofs.AcceptedIsWellFormed.{well-formed}
 use Rattle.ruling.specs.Forest.{forestWithin, under}
 use Rattle.ruling.specs.Targets.{applies}
-use Rattle.ruling.specs.Meaning.{effect, gives, decisions, decision, cardsFrom, cards, meaning}
+use Rattle.ruling.specs.Meaning.{effect, gives, childOf, children, decision, cardsFrom, cards, meaning}
 use Rattle.ruling.specs.Ruling.{groups}
-use Rattle.ruling.specs.Walk.{Whole}
+use Rattle.ruling.specs.Walk.{SpansInside}
 use Rattle.ruling.proofs.Forest.{whole-under}
-use Rattle.ruling.proofs.Decisions.{decisions-list}
+use Rattle.ruling.proofs.Decisions.{children-list}
 use Rattle.ruling.proofs.LevelByLevel.{level-by-level}
 
 module _ (a b : ℕ → Bool) (t : List ℕ) (w : WellFormed t) (same : (i : ℕ) → i < count t → a i ≡ b i) where
-  gives-same : (i : ℕ) (ds : List ℕ) → i < count t → gives a t i ds ≡ gives b t i ds
+  gives-same : (i : ℕ) (cs : List Child) → i < count t → gives a t i cs ≡ gives b t i cs
   unfolding gives
-  gives-same i ds l =
-      ap (λ x. cond x (cond (isRule t i) (effect (kind t i)) (way (kind t i) ds)) notApplicable) (same i l)
+  gives-same i cs l =
+      ap (λ x. cond x (cond (isRule t i) (effect (kind t i)) (way (kind t i) cs)) notApplicable) (same i l)
 
-  decisions-same : (n i end : ℕ) → Whole t i end → decisions a t (forestWithin n t i end) ≡ decisions b t (forestWithin n t i end)
-  decisions-same =
-      level-by-level t w (decisions a t) (decisions b t) (gives a t) (gives b t) (decisions-list a t) (decisions-list b t)
-      (λ n i l. gives-same i (decisions b t (forestWithin n t (i + 1) (endOf t i))) l)
+  children-same : (n i end : ℕ) → SpansInside t i end → children a t (forestWithin n t i end) ≡ children b t (forestWithin n t i end)
+  children-same =
+      level-by-level t w (children a t) (children b t) (λ i cs. childOf a i (gives a t i cs)) (λ i cs. childOf b i (gives b t i cs))
+      (children-list a t) (children-list b t)
+      (λ n i l. ap (childOf a i) (gives-same i (children b t (forestWithin n t (i + 1) (endOf t i))) l))
 
   decision-same : (i : ℕ) → i < count t → decision a t i ≡ decision b t i
   decision-same i l =
-      ap (gives a t i) (decisions-same (endOf t i - (i + 1)) (i + 1) (endOf t i) (whole-under t w i l))
-      ∙ gives-same i (decisions b t (under t i)) l
+      ap (gives a t i) (children-same (endOf t i - (i + 1)) (i + 1) (endOf t i) (whole-under t w i l))
+      ∙ gives-same i (children b t (under t i)) l
 
   cards-same : (n i : ℕ) → i + n ≤ count t → cardsFrom a t i n ≡ cardsFrom b t i n
   unfolding cardsFrom

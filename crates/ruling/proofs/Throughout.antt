@@ -15,6 +15,7 @@ use Rattle.table.specs.Tree.{endOf}
 use Rattle.table.specs.WellFormed.{WellFormed}
 use Rattle.table.proofs.ParentsAndSpansAgree.{reaches-through}
 use Rattle.ruling.specs.Targets.{everyBelow}
+use Rattle.ruling.specs.Walk.{HoldAbove}
 use Rattle.ruling.proofs.Tests.{every-true, every-false, every-each}
 
 -- the test passes at node j, or the span of j does not reach over node i
@@ -24,10 +25,6 @@ passes t h i j = not (ltb i (endOf t j)) || h j
 -- the test passes at node i and at every node above it
 abbrev pub throughout : List ℕ → (ℕ → Bool) → ℕ → Bool
 throughout t h i = everyBelow (suc i) (passes t h i)
-
--- the test passes at every node above node i
-abbrev pub PassAbove : List ℕ → (ℕ → Bool) → ℕ → Type 0
-PassAbove t h i = (j : ℕ) → j < i → i < endOf t j → h j ≡ true
 
 module _ (t : List ℕ) (h : ℕ → Bool) where
   passes-by : (i j : ℕ) (b : Bool) → ltb i (endOf t j) ≡ b → passes t h i j ≡ (not b || h j)
@@ -56,7 +53,7 @@ module _ (t : List ℕ) (h : ℕ → Bool) where
   throughout-under i m l r e = every-false (passes t h m) (suc m) i (omega arith) (passes-over m i r ∙ e)
 
   -- where it passes at every node above a node, it does throughout where it passes at the node
-  pub throughout-is : (i : ℕ) → PassAbove t h i → 1 ≤ span t i → throughout t h i ≡ h i
+  pub throughout-is : (i : ℕ) → HoldAbove t h i → 1 ≤ span t i → throughout t h i ≡ h i
   throughout-is i a l = by (h i) refl
     where
       above : h i ≡ true → (j : ℕ) → j ≤ i → i < endOf t j → h j ≡ true
@@ -66,17 +63,15 @@ module _ (t : List ℕ) (h : ℕ → Bool) where
       by true e = throughout-where i (above e) ∙ sym e
       by false e = throughout-under i i (omega arith) (omega arith) e ∙ sym e
 
-  pub pass-root : PassAbove t h 0
+  -- what holds above the root, above the first child of a node and above the node after all under it
+
+  pub pass-root : HoldAbove t h 0
   pass-root j l r = absurd (omega arith)
 
-  pub pass-child : (i : ℕ) → h i ≡ true → PassAbove t h i → PassAbove t h (i + 1)
-  pass-child i e a j l r =
-      ⊎-elim
-      (λ (k : j ≡ i). ap h k ∙ e)
-      (λ (k : j < i). a j k (omega arith))
-      (eq-or-lt-of-le (omega arith))
+  pub pass-down : (i : ℕ) → throughout t h i ≡ true → HoldAbove t h (i + 1)
+  pass-down i e j l r = throughout-each i e j (omega arith) (omega arith)
 
-  pub pass-after : (i : ℕ) → WellFormed t → i < count t → PassAbove t h i → PassAbove t h (endOf t i)
+  pub pass-after : (i : ℕ) → WellFormed t → i < count t → HoldAbove t h i → HoldAbove t h (endOf t i)
   pass-after i w c a j l r =
       ⊎-elim
       (λ (m : j < i). a j m (omega (arith, w .spans i c)))

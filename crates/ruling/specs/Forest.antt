@@ -1,10 +1,11 @@
 -- The tree of a table's nodes, by their spans.
 -- Assumes nothing: these are definitions.
-use mathlib.Core.Bool.{true, false}
-use mathlib.Core.List.{List}
+use mathlib.Core.Bool.{true, false, cond}
+use mathlib.Core.List.{List, [], _∷_}
 use Prim.Native.Nat.{ℕ, zero, suc, _+_, _-_}
-use lib.Dec.{ltb}
-use Rattle.table.specs.Tree.{endOf}
+use lib.Dec.{eqb, ltb}
+use Rattle.table.specs.Layout.{count}
+use Rattle.table.specs.Tree.{endOf, parent}
 
 -- Nodes on one level, in order: a first node with the nodes under it, and then the nodes after those.
 pub data Forest : Type 0 where
@@ -28,3 +29,17 @@ run t i end = forestWithin (end - i) t i end
 -- the nodes under node i
 abbrev pub under : List ℕ → ℕ → Forest
 under t i = run t (i + 1) (endOf t i)
+
+-- "A node's parent is the latest earlier node whose span reaches over it": of the n nodes from j upward, those whose parent is node i
+unfoldable pub childrenFrom : List ℕ → ℕ → ℕ → ℕ → List ℕ
+childrenFrom t i j zero = []
+childrenFrom t i j (suc n) = cond (eqb (parent t j) i) (j ∷ childrenFrom t i (j + 1) n) (childrenFrom t i (j + 1) n)
+
+-- "a child one level below its parent": the children of node i, of all nodes but the root
+abbrev pub childrenOf : List ℕ → ℕ → List ℕ
+childrenOf t i = childrenFrom t i 1 (count t - 1)
+
+-- nodes on one level, each with the nodes under it
+abbrev pub trees : List ℕ → List ℕ → Forest
+trees t [] = empty
+trees t (i ∷ is) = node i (under t i) (trees t is)

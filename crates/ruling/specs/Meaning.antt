@@ -6,28 +6,33 @@ use mathlib.Core.List.{List, [], _∷_}
 use Prim.Native.Nat.{ℕ, zero, suc, _+_}
 use lib.Dec.{eqb}
 use Rattle.answer.specs.Rulings.{Ruling}
-use Rattle.combining.specs.Ways.{notApplicable, permit, deny, way}
+use Rattle.combining.specs.Kinds.{permitRuleKind}
+use Rattle.combining.specs.Ways.{notApplicable, permit, deny, Child, heard, way}
 use Rattle.table.specs.Layout.{count, kind, card}
 use Rattle.table.specs.Tree.{isRule}
 use Rattle.ruling.specs.Forest.{Forest, empty, node, under}
 
 -- "4 may, 5 may not": a rule's effect, by its kind
 abbrev pub effect : ℕ → ℕ
-effect kind = cond (eqb kind 4) permit deny
+effect kind = cond (eqb kind permitRuleKind) permit deny
 
 -- "A matching rule gives its effect, any other rule none. A group whose target fails gives none. Otherwise a group asks its children":
--- the decision of node i, where its children give ds
-unfoldable pub gives : (ℕ → Bool) → List ℕ → ℕ → List ℕ → ℕ
-gives a t i ds = cond (a i) (cond (isRule t i) (effect (kind t i)) (way (kind t i) ds)) notApplicable
+-- the decision of node i, of its children
+unfoldable pub gives : (ℕ → Bool) → List ℕ → ℕ → List Child → ℕ
+gives a t i cs = cond (a i) (cond (isRule t i) (effect (kind t i)) (way (kind t i) cs)) notApplicable
 
--- "a child that is a group asks its own in turn": the decisions of nodes on one level, in order
-abbrev pub decisions : (ℕ → Bool) → List ℕ → Forest → List ℕ
-decisions a t empty = []
-decisions a t (node i below after) = gives a t i (decisions a t below) ∷ decisions a t after
+-- node i as a child, where it gives d: "if exactly one child gives something", whichever nodes apply
+abbrev pub childOf : (ℕ → Bool) → ℕ → ℕ → Child
+childOf a i d = heard d
+
+-- "a child that is a group asks its own in turn": nodes on one level as children, in order
+abbrev pub children : (ℕ → Bool) → List ℕ → Forest → List Child
+children a t empty = []
+children a t (node i below after) = childOf a i (gives a t i (children a t below)) ∷ children a t after
 
 -- the decision of node i
 abbrev pub decision : (ℕ → Bool) → List ℕ → ℕ → ℕ
-decision a t i = gives a t i (decisions a t (under t i))
+decision a t i = gives a t i (children a t (under t i))
 
 -- "A rule matches when its own target and every target above it hold."
 abbrev pub matches : (ℕ → Bool) → List ℕ → ℕ → Bool

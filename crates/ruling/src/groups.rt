@@ -12,13 +12,13 @@ ghost use mathlib.Core.Path.{_≡_};
 ghost use Prim.Native.Nat.{_<_};
 ghost use lib.ListN.{length, set};
 ghost use lib.Seq.{sets};
-ghost use Rattle.combining.specs.Ways.{notApplicable, taken};
+ghost use Rattle.combining.specs.Ways.{way};
 ghost use Rattle.table.specs.WellFormed.{WellFormed};
 ghost use Rattle.ruling.specs.Forest.{run};
-ghost use Rattle.ruling.specs.Targets.{applies};
-ghost use Rattle.ruling.specs.Meaning.{effect, decisions, decision};
+ghost use Rattle.ruling.specs.Targets.{targetHolds, applies};
+ghost use Rattle.ruling.specs.Meaning.{effect, children, decision};
 ghost use Rattle.ruling.specs.Ruling.{groups};
-ghost use Rattle.ruling.specs.Walk.{Node, Run, Gathered};
+ghost use Rattle.ruling.specs.Walk.{HoldAbove, Node, ChildRun, Gathered};
 
 // A decision, and how many cards there are so far.
 pub struct Ruled {
@@ -56,13 +56,21 @@ pub(crate) fn rule_node(
     count: usize,
 ) -> Ruled
     requires { ⌜ WellFormed (now table) ⌝ }
-    requires { ⌜ Node (now table) (now values) i end count ⌝ }
+    requires { ⌜ Node (applies (now table) (now values)) (now table) i end count ⌝ }
     ensures { λ r. ⌜ r .decision ≡ decision (applies (now (table .entry)) (now (values .entry))) (now (table .entry)) i ⌝ }
-    ensures { λ r. ⌜ Gathered (now (table .entry)) (now (values .entry)) i end count (r .count) (now (cards .entry)) (now (cards .exit)) ⌝ }
+    ensures { λ r. ⌜ Gathered (applies (now (table .entry)) (now (values .entry))) (now (table .entry)) i end count (r .count) (now (cards .entry)) (now (cards .exit)) ⌝ }
 {
     let kind = kind_at(table, i);
     match kind {
-        0..=3 => rule_run(table, values, kind, i + 1, end, cards, count),
+        Kind::FIRST_APPLICABLE..=Kind::DENY_OVERRIDES => rule_run(
+            table,
+            values,
+            kind,
+            i + 1,
+            end,
+            cards,
+            count,
+        ),
         _ => {
             put(cards, count, card_at(table, i));
             Ruled {
@@ -86,9 +94,10 @@ fn rule_run(
     before: usize,
 ) -> Ruled
     requires { ⌜ WellFormed (now table) ⌝ }
-    requires { ⌜ Run (now table) (now values) first end before × (kind < 4) ⌝ }
-    ensures { λ r. ⌜ r .decision ≡ taken kind notApplicable (decisions (applies (now (table .entry)) (now (values .entry))) (now (table .entry)) (run (now (table .entry)) first end)) ⌝ }
-    ensures { λ r. ⌜ Gathered (now (table .entry)) (now (values .entry)) first end before (r .count) (now (cards .entry)) (now (cards .exit)) ⌝ }
+    requires { ⌜ ChildRun (now table) first end before × (kind < 4) ⌝ }
+    requires { ⌜ HoldAbove (now table) (targetHolds (now table) (now values)) first ⌝ }
+    ensures { λ r. ⌜ r .decision ≡ way kind (children (applies (now (table .entry)) (now (values .entry))) (now (table .entry)) (run (now (table .entry)) first end)) ⌝ }
+    ensures { λ r. ⌜ Gathered (applies (now (table .entry)) (now (values .entry))) (now (table .entry)) first end before (r .count) (now (cards .entry)) (now (cards .exit)) ⌝ }
 {
     let mut running = Running::start(kind);
     let mut count = before;

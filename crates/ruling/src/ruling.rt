@@ -23,7 +23,7 @@ pub fn rule(table: &[u8], request: Request, cards: &mut [u16]) -> Answer
     }
     let values = request.values;
     let maxima = maxima_at(table);
-    let field = field_fault(&maxima, &values);
+    let field = field_fault(&maxima, &values, 0);
     if field < FIELDS {
         return Answer::refused(9, field);
     }

@@ -3,9 +3,7 @@ use answer::FIELDS;
 use table::layout::high_at;
 use table::layout::low_at;
 ghost use mathlib.Core.Path.{_≡_};
-ghost use Prim.Native.Nat.{_+_, _≤_};
-ghost use lib.ListN.{length};
-ghost use Rattle.table.specs.Layout.{start};
+ghost use Rattle.table.specs.Layout.{NodeHeld};
 ghost use Rattle.ruling.specs.Targets.{inRange, targetHolds};
 
 // Whether a value lies in a range, both ends included.
@@ -21,7 +19,7 @@ pub fn in_range(low: u8, high: u8, value: u16) -> bool
 
 // Whether node i's target holds: every value lies in its range.
 pub(crate) fn target_holds(table: &[u8], values: &[u16; FIELDS], i: usize) -> bool
-    requires { ⌜ start (i + 1) ≤ length (now table) ⌝ }
+    requires { ⌜ NodeHeld (now table) i ⌝ }
     ensures { λ r. ⌜ r ≡ targetHolds (now (table .entry)) (now (values .entry)) i ⌝ }
 {
     let mut field = 0;

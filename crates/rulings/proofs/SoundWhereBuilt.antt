@@ -11,7 +11,7 @@ use Rattle.table.specs.Layout.{Bytes}
 use Rattle.diagram.specs.Sound.{Sound}
 use Rattle.building.specs.Built.{diagramOf, built, builtDiagram}
 use Rattle.building.proofs.BuiltIsSound.{built-is-sound}
-use Rattle.building.proofs.FirstRefusalOrBuilt.{succeeds-exactly, accepted-built}
+use Rattle.building.proofs.BuildAnswers.{succeeds-exactly, accepted-built}
 
 pub sound-where-built : (t : List ℕ) (n : ℕ) (a : Answer) (d : List ℕ) → Bytes t → a ≡ built t n → d ≡ builtDiagram t n → a .number ≡ 0 → Sound fields d
 sound-where-built t n a d b e i z =

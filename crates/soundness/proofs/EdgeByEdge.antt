@@ -15,7 +15,7 @@ use Rattle.answer.specs.Fields.{fields}
 use Rattle.diagram.specs.Layout.{numberAt, maximum, levelAt, edgesAt, lastAt, childAt}
 use Rattle.diagram.specs.Sound.{Start, EntryBefore, nextLevel, SoundNode}
 use Rattle.diagram.specs.Decided.{Decides}
-use Rattle.soundness.specs.Pass.{Marked}
+use Rattle.soundness.specs.Pass.{EntriesMarked}
 
 -- the mark where entries of the next level start
 pub next-mark-last : (level : ℕ) → level ≡ fields → 1 ≡ nextLevel fields level + 1
@@ -46,11 +46,11 @@ module _ (d : List ℕ) (p : ℕ) where
         children = λ i h. absurd (omega arith);
       }
 
-  pub checked-more : (from j last : ℕ) → Checked from j → last ≡ lastAt d p j → from ≤ last → ChildRight j → Checked (last + 1) (j + 1)
-  checked-more from j last c e h k =
+  pub checked-more : {from j : ℕ} → Checked from j → from ≤ lastAt d p j → ChildRight j → Checked (lastAt d p j + 1) (j + 1)
+  checked-more {j = j} c h k =
       record {
         first = λ z. absurd (omega arith);
-        after = λ i z. let q : j ≡ i = omega arith in ap (λ n. n + 1) (e ∙ ap (lastAt d p) q);
+        after = λ i z. let q : j ≡ i = omega arith in ap (λ n. lastAt d p n + 1) q;
         rising = λ i g.
             ⊎-elim
             (λ (q : i + 1 ≡ j). subst (λ (n : ℕ). lastAt d p i < lastAt d p n) (sym q) (omega (arith, c .after i q)))
@@ -59,9 +59,9 @@ module _ (d : List ℕ) (p : ℕ) where
         children = below-more ChildRight j (c .children) k;
       }
 
-  -- an edge that ends before it may
-  pub not-rising : (from j last : ℕ) → Checked from j → last ≡ lastAt d p j → last < from → j < edgesAt d p → SoundNode fields d p → ⊥
-  not-rising from j last c e h l s =
+  -- an edge that ends before it may makes the node unsound
+  pub not-rising : {from j : ℕ} → Checked from j → lastAt d p j < from → j < edgesAt d p → SoundNode fields d p → ⊥
+  not-rising {j = j} c h l s =
       ⊎-elim
       (λ (z : 0 ≡ j). omega (arith, c .first (sym z)))
       (λ (g : 0 < j).
@@ -70,43 +70,43 @@ module _ (d : List ℕ) (p : ℕ) where
       omega (arith, c .after (j - 1) i, ap (lastAt d p) i))
       (eq-or-lt-of-le {n = 0} {m = j} (omega arith))
 
-  -- the mark of a child: what stands there where it is earlier, else 0
+  -- the mark of edge j's child: what stands there where it is earlier, else 0
   abbrev pub MarkOf : List ℕ → ℕ → ℕ → Type 0
-  MarkOf marks child mark = ((child < p) × (mark ≡ getD marks child 0)) ⊎ ((p ≤ child) × (mark ≡ 0))
+  MarkOf marks j mark = ((childAt d p j < p) × (mark ≡ getD marks (childAt d p j) 0)) ⊎ ((p ≤ childAt d p j) × (mark ≡ 0))
 
-  module _ (marks : List ℕ) (m : Marked d p marks) (level below : ℕ) (el : level ≡ levelAt d p) (eb : below ≡ nextLevel fields level + 1) where
-    -- a child by its mark
-    pub child-right : (j child mark : ℕ) → child ≡ childAt d p j → MarkOf marks child mark → mark ≡ below → ChildRight j
-    child-right j child mark e (inl (h, k)) q =
-        let s = m .else-none child (omega arith) in
-        let z : levelAt d child ≡ nextLevel fields (levelAt d p) = omega (arith, m .at-start child (s .0) h, ap (nextLevel fields) el) in
-        subst (EntryBefore fields d p (nextLevel fields (levelAt d p))) e (record { starts = s .0; earlier = h; begins = z })
-    child-right j child mark e (inr (h, k)) q = absurd (omega arith)
+  module _ (marks : List ℕ) (m : EntriesMarked d p marks) (j mark below : ℕ) (o : MarkOf marks j mark) (eb : below ≡ nextLevel fields (levelAt d p) + 1) where
+    -- a child with the right mark is the start of an earlier entry of the next level
+    pub child-right : mark ≡ below → ChildRight j
+    child-right q =
+        ⊎-elim
+        (λ (h, k).
+        let s = m .else-none (childAt d p j) (omega arith) in
+        record { starts = s .0; earlier = h; begins = omega (arith, m .at-start (childAt d p j) (s .0) h) })
+        (λ (h, k). absurd (omega arith))
+        o
 
-    -- a wrong mark
-    pub child-wrong : (j child mark : ℕ) → child ≡ childAt d p j → MarkOf marks child mark → (mark ≡ below → ⊥) → j < edgesAt d p → SoundNode fields d p → ⊥
-    child-wrong j child mark e (inl (h, k)) n l s =
+    -- a child with another mark makes the node unsound
+    pub child-wrong : (mark ≡ below → ⊥) → j < edgesAt d p → SoundNode fields d p → ⊥
+    child-wrong n l s =
         let c = s .children j l in
-        let t : Start fields d child = subst (Start fields d) (sym e) (c .starts) in
-        let z : levelAt d child ≡ nextLevel fields (levelAt d p) = ap (levelAt d) e ∙ c .begins in
-        n (omega (arith, m .at-start child t h, ap (nextLevel fields) el))
-    child-wrong j child mark e (inr (h, k)) n l s = omega (arith, s .children j l .earlier)
+        ⊎-elim
+        (λ (h, k). n (omega (arith, c .begins, m .at-start (childAt d p j) (c .starts) h)))
+        (λ (h, k). omega (arith, c .earlier))
+        o
 
   -- all edges checked: the last one is to end at the maximum
-  module _ (level from j last : ℕ) (el : level ≡ levelAt d p) (c : Checked from j) (ej : j ≡ edgesAt d p) (l : 1 ≤ level) (h : level ≤ fields) (e : last ≡ numberAt d (1 + level)) where
-    its-maximum : last ≡ maximum d (levelAt d p - 1)
-    its-maximum =
-        let z : 1 + level ≡ 2 + (levelAt d p - 1) = omega arith in
-        e ∙ ap (numberAt d) z
+  module _ {from j : ℕ} (c : Checked from j) (ej : j ≡ edgesAt d p) (l : 1 ≤ levelAt d p) (h : levelAt d p ≤ fields) where
+    its-maximum : numberAt d (1 + levelAt d p) ≡ maximum d (levelAt d p - 1)
+    its-maximum = let z : 1 + levelAt d p ≡ 2 + (levelAt d p - 1) = omega arith in ap (numberAt d) z
 
     ends : 1 ≤ j → from ≡ lastAt d p (edgesAt d p - 1) + 1
     ends g =
         let i : j - 1 + 1 ≡ j = omega arith in
         c .after (j - 1) i ∙ ap (λ n. lastAt d p (n - 1) + 1) ej
 
-    pub edges-decide : (b : Bool) → eqb from (last + 1) ≡ b → Decides (SoundNode fields d p) b
+    pub edges-decide : (b : Bool) → eqb from (numberAt d (1 + levelAt d p) + 1) ≡ b → Decides (SoundNode fields d p) b
     edges-decide true t =
-        let z : from ≡ last + 1 = eqb-true from (last + 1) t in
+        let z : from ≡ numberAt d (1 + levelAt d p) + 1 = eqb-true from _ t in
         let some : 1 ≤ j =
         ⊎-elim (λ (y : 0 ≡ j). absurd (omega (arith, c .first (sym y)))) (λ (g : 0 < j). g) (eq-or-lt-of-le {n = 0} {m = j} (omega arith)) in
         record {
@@ -117,5 +117,4 @@ module _ (d : List ℕ) (p : ℕ) where
           ending = omega (arith, ends some, its-maximum);
           children = λ i g. c .children i (omega arith);
         }
-    edges-decide false t = λ s.
-        eqb-false from (last + 1) t (omega (arith, ends (omega (arith, s .some-edge)), s .ending, its-maximum))
+    edges-decide false t = λ s. eqb-false from _ t (omega (arith, ends (omega (arith, s .some-edge)), s .ending, its-maximum))

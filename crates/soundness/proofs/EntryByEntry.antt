@@ -16,7 +16,7 @@ use Rattle.diagram.specs.Layout.{header, mostPlaces, used, root, maximum, level
 use Rattle.diagram.specs.Sound.{Start, first, next, SoundTerminal, SoundNode, SoundEntry, Sound}
 use Rattle.diagram.specs.Decided.{Decides, either}
 use Rattle.diagram.specs.Starts.{size-terminal, size-node, size-two, start-low, start-gap}
-use Rattle.soundness.specs.Pass.{Whole, Marked, Opened, Unmarked}
+use Rattle.soundness.specs.Pass.{Whole, EntriesMarked, Opened, Unmarked}
 
 module _ (d : List ℕ) where
   module _ (p : ℕ) where
@@ -46,7 +46,7 @@ module _ (d : List ℕ) where
       (λ t. List·getD-eq-default (zeros n) 0 (omega (arith, length-replicate {A = ℕ} n 0, ltb-false q n t)))
       (either (ltb q n))
 
-  marked-none : (n : ℕ) → header fields ≤ n → Marked d (header fields) (zeros n)
+  marked-none : (n : ℕ) → header fields ≤ n → EntriesMarked d (header fields) (zeros n)
   marked-none n h =
       record {
         room = omega (arith, length-replicate {A = ℕ} n 0);
@@ -63,7 +63,7 @@ module _ (d : List ℕ) where
         (λ e. omega (arith, n, ltb-false p q e))
         (either (ltb p q))
 
-    marked-more : (marks : List ℕ) → Marked d p marks → p + sizeAt d p ≤ length marks → Marked d (p + sizeAt d p) (set marks p (levelAt d p + 1))
+    marked-more : (marks : List ℕ) → EntriesMarked d p marks → p + sizeAt d p ≤ length marks → EntriesMarked d (p + sizeAt d p) (set marks p (levelAt d p + 1))
     marked-more marks m l =
         let x : ℕ = levelAt d p + 1 in
         record {
@@ -110,24 +110,24 @@ module _ (d : List ℕ) where
   opened-decides a b c e false m = λ o. m (o .maxima)
 
   -- the entries before p are sound and marked
-  pub record Passed (marks : List ℕ) (p : ℕ) : Type 0 where
+  pub record EntriesPassed (marks : List ℕ) (p : ℕ) : Type 0 where
     pub starts : Start fields d p
     pub inside : p ≤ used d
     pub room : used d ≤ length marks
-    pub marked : Marked d p marks
+    pub marked : EntriesMarked d p marks
     pub entries : (q : ℕ) → Start fields d q → q < p → SoundEntry fields d q
 
-  pub passed-none : (marks : List ℕ) → Opened d → Unmarked d marks → Passed marks (header fields)
+  pub passed-none : (marks : List ℕ) → Opened d → Unmarked d marks → EntriesPassed marks (header fields)
   passed-none marks o u =
       record {
         starts = first;
         inside = o .header-used;
         room = u .room;
-        marked = subst (Marked d (header fields)) (sym (u .none)) (marked-none (length marks) (omega (arith, o .header-used, u .room)));
+        marked = subst (EntriesMarked d (header fields)) (sym (u .none)) (marked-none (length marks) (omega (arith, o .header-used, u .room)));
         entries = λ q s h. absurd (omega (arith, start-low fields d q s));
       }
 
-  module _ (o : Opened d) (marks : List ℕ) (p : ℕ) (a : Passed marks p) where
+  module _ (o : Opened d) (marks : List ℕ) (p : ℕ) (a : EntriesPassed marks p) where
     pub passed-whole : (size : ℕ) → p < used d → size ≡ sizeAt d p → p + size ≤ used d → Whole d p
     passed-whole size h e g =
         record {
@@ -137,10 +137,10 @@ module _ (d : List ℕ) where
         }
 
     pub passed-more : (size level : ℕ) → p < used d → size ≡ sizeAt d p → p + size ≤ used d → SoundEntry fields d p → level ≡ levelAt d p →
-        Passed (set marks p (level + 1)) (p + size)
+        EntriesPassed (set marks p (level + 1)) (p + size)
     passed-more size level h e g k l =
-        subst (λ (n : ℕ). Passed (set marks p (level + 1)) (p + n)) (sym e)
-        (subst (λ (n : ℕ). Passed (set marks p (n + 1)) (p + sizeAt d p)) (sym l)
+        subst (λ (n : ℕ). EntriesPassed (set marks p (level + 1)) (p + n)) (sym e)
+        (subst (λ (n : ℕ). EntriesPassed (set marks p (n + 1)) (p + sizeAt d p)) (sym l)
         (record {
           starts = next p (p + sizeAt d p) (a .starts) h refl;
           inside = omega arith;
@@ -149,15 +149,15 @@ module _ (d : List ℕ) where
           entries = entries-more p (a .starts) (a .entries) k;
         }))
 
-    -- an entry that ends past the used places
+    -- an entry that ends past the used places makes the diagram unsound
     pub not-tiled : (size : ℕ) → p < used d → size ≡ sizeAt d p → used d < p + size → Sound fields d → ⊥
     not-tiled size h e g s = omega (arith, start-gap fields d p (used d) (a .starts) (s .tiled) h)
 
-    -- an entry that is not sound
+    -- an entry that is not sound makes the diagram unsound
     pub not-entry : p < used d → (SoundEntry fields d p → ⊥) → Sound fields d → ⊥
     not-entry h n s = n (s .entries p (a .starts) h)
 
-    -- a root past the used places
+    -- a root past the used places makes the diagram unsound
     pub root-past : (r : ℕ) → r ≡ root d → used d ≤ r → Sound fields d → ⊥
     root-past r e h s = omega (arith, s .root-entry .earlier)
 

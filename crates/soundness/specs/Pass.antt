@@ -16,7 +16,7 @@ pub record Whole (d : List ℕ) (p : ℕ) : Type 0 where
   pub within : p + sizeAt d p ≤ length d
 
 -- the marks of the entries before p: where one starts, one more than its level; elsewhere 0
-pub record Marked (d : List ℕ) (p : ℕ) (marks : List ℕ) : Type 0 where
+pub record EntriesMarked (d : List ℕ) (p : ℕ) (marks : List ℕ) : Type 0 where
   pub room : p ≤ length marks
   pub at-start : (q : ℕ) → Start fields d q → q < p → getD marks q 0 ≡ levelAt d q + 1
   pub else-none : (q : ℕ) → 0 < getD marks q 0 → Start fields d q × (q < p)

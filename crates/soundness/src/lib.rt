@@ -1,5 +1,6 @@
 // Whether a slice is a sound diagram: one pass, linear in the places used.
 use answer::FIELDS;
+use combining::Decision;
 use diagram::HEADER;
 use diagram::MOST_PLACES;
 use diagram::layout::size_at;
@@ -11,7 +12,7 @@ ghost use Rattle.diagram.specs.Layout.{header, mostPlaces, maximum, levelAt, co
 ghost use Rattle.diagram.specs.Sound.{SoundTerminal, SoundNode, SoundEntry, Sound};
 ghost use Rattle.diagram.specs.Decided.{yes?, Decides};
 ghost use Rattle.diagram.specs.SoundIsDecided.{sound?};
-ghost use Rattle.soundness.specs.Pass.{Whole, Marked, Opened, Unmarked};
+ghost use Rattle.soundness.specs.Pass.{Whole, EntriesMarked, Opened, Unmarked};
 
 // A diagram that uses no more places than this is marked in a small array, which is cleared sooner.
 const SMALL: usize = 2048;
@@ -37,7 +38,7 @@ fn terminal_sound(diagram: &[u16], place: usize) -> bool
     requires { ⌜ (place < mostPlaces) × (place + 3 + countAt (now diagram) place ≤ length (now diagram)) ⌝ }
     ensures { λ r. ⌜ Decides (SoundTerminal (now (diagram .entry)) place) r ⌝ }
 {
-    if 3 < diagram[place + 1] {
+    if (Decision::INDETERMINATE as u16) < diagram[place + 1] {
         return false;
     }
     let count = diagram[place + 2] as usize;
@@ -58,7 +59,7 @@ fn terminal_sound(diagram: &[u16], place: usize) -> bool
 fn node_sound(diagram: &[u16], place: usize, marks: &[u8]) -> bool
     requires { ⌜ (1 ≤ levelAt (now diagram) place) × (header fields ≤ length (now diagram)) ⌝ }
     requires { ⌜ (place < mostPlaces) × (place + 2 + 2 * edgesAt (now diagram) place ≤ length (now diagram)) ⌝ }
-    requires { ⌜ Marked (now diagram) place (now marks) ⌝ }
+    requires { ⌜ EntriesMarked (now diagram) place (now marks) ⌝ }
     ensures { λ r. ⌜ Decides (SoundNode fields (now (diagram .entry)) place) r ⌝ }
 {
     let level = diagram[place] as usize;
@@ -91,7 +92,7 @@ fn node_sound(diagram: &[u16], place: usize, marks: &[u8]) -> bool
 // Whether the entry at a place is sound.
 fn entry_sound(diagram: &[u16], place: usize, marks: &[u8]) -> bool
     requires { ⌜ Whole (now diagram) place ⌝ }
-    requires { ⌜ Marked (now diagram) place (now marks) ⌝ }
+    requires { ⌜ EntriesMarked (now diagram) place (now marks) ⌝ }
     ensures { λ r. ⌜ Decides (SoundEntry fields (now (diagram .entry)) place) r ⌝ }
 {
     if diagram[place] == 0 {

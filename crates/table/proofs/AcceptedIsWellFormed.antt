@@ -11,8 +11,9 @@ use Rattle.table.specs.Tree.{endOf, parent}
 use Rattle.table.specs.Reading.{Accepted}
 use Rattle.table.specs.WellFormed.{WellFormed}
 use Rattle.table.proofs.Tree.{parent-below, parent-reaches}
-use Rattle.table.proofs.Header.{accepted-header, headed}
-use Rattle.table.proofs.Good.{Good, accepted-node, good}
+use Rattle.table.proofs.Header.{headed}
+use Rattle.table.proofs.Good.{Good, good}
+use Rattle.table.proofs.Accepting.{accepted-header, accepted-node}
 
 module _ (t : List ℕ) where
   module _ (all : (i : ℕ) → i < count t → Good t i) where

@@ -8,27 +8,28 @@ use native.Mathlib.Omega.{arith}
 use borrow.Author.Tests.{lt-ltb, le-ltb, eq-eqb, ne-eqb, ltb-false}
 use lib.Dec.{ltb, eqb}
 use lib.ListN.{length}
-use Rattle.table.specs.Layout.{bytesAfter, count, header, start, maximum, kind, span, low, high}
+use Rattle.answer.specs.Refusals.{settled, firstNumber}
+use Rattle.table.specs.Layout.{bytesAfter, count, header, start, maximum, kind, span, low, high, HeaderHeld}
 use Rattle.table.specs.Tree.{isRule, endOf, parent, level}
 use Rattle.table.specs.Open.{EndAbove}
-use Rattle.table.specs.Reading.{lengthFault, countFault, kindFault, oddSpan, wrongEnd, spanFault, levelFault, rangeFault, faultAfterKind, nodeFault}
+use Rattle.table.specs.Reading.{lengthFault, countFault, kindFault, oddSpan, wrongEnd, spanFault, levelFault, rangeFault, refusalsAfterKind, nodeRefusals}
 use Rattle.table.proofs.Tests.{neither}
 
 module _ (t : List ℕ) where
   -- refusal 1
 
-  pub length-short : length t < header → true ≡ lengthFault t
+  pub length-short : length t < header t → true ≡ lengthFault t
   unfolding lengthFault
-  length-short h = simp (lt-ltb (length t) header h)
+  length-short h = simp (lt-ltb (length t) (header t) h)
 
-  pub length-other : (w : ℕ) → w ≡ bytesAfter t → header ≤ length t → not (eqb (length t) (w + 2)) ≡ lengthFault t
+  pub length-other : (w : ℕ) → w ≡ bytesAfter t → HeaderHeld t → not (eqb (length t) (w + 2)) ≡ lengthFault t
   unfolding lengthFault
-  length-other w e h = simp (le-ltb (length t) header h, e)
+  length-other w e h = simp (le-ltb (length t) (header t) h, e)
 
   -- what passes refusal 1 has a header
-  pub length-passed : lengthFault t ≡ false → header ≤ length t
+  pub length-passed : lengthFault t ≡ false → HeaderHeld t
   unfolding lengthFault
-  length-passed e = ltb-false (length t) header (neither (ltb (length t) header) _ e .0)
+  length-passed e = ltb-false (length t) (header t) (neither (ltb (length t) (header t)) _ e .0)
 
   -- refusal 3
   module _ (n : ℕ) (en : n ≡ count t) where
@@ -41,9 +42,9 @@ module _ (t : List ℕ) where
       unfolding countFault
       count-many h = simp (ne-eqb (count t) 0 (λ e. some (omega arith)), lt-ltb 128 (count t) (omega arith))
 
-      pub count-other : n ≤ 128 → not (eqb (length t) (start n)) ≡ countFault t
+      pub count-other : (s : ℕ) → s ≡ start t n → n ≤ 128 → not (eqb (length t) s) ≡ countFault t
       unfolding countFault
-      count-other h = simp (ne-eqb (count t) 0 (λ e. some (omega arith)), le-ltb 128 (count t) (omega arith), en)
+      count-other s e h = simp (ne-eqb (count t) 0 (λ e. some (omega arith)), le-ltb 128 (count t) (omega arith), e, en)
 
   module _ (i : ℕ) where
     -- refusal 5
@@ -96,10 +97,11 @@ module _ (t : List ℕ) where
       range-high m em g = simp (le-ltb (high t i f) (low t i f) (omega arith), em, eh)
 
     -- refusals 4 to 8 in order
-    pub fault-later : (k d : ℕ) → k ≡ kind t i → k ≤ 5 → d ≡ faultAfterKind t i → d ≡ nodeFault t i
-    unfolding nodeFault kindFault
-    fault-later k d e l h = h ∙ sym (ap (λ b. cond b 4 (faultAfterKind t i)) (le-ltb 5 (kind t i) (omega arith)))
 
-    pub fault-kind : (k : ℕ) → k ≡ kind t i → 5 < k → 4 ≡ nodeFault t i
-    unfolding nodeFault kindFault
-    fault-kind k e l = sym (ap (λ b. cond b 4 (faultAfterKind t i)) (lt-ltb 5 (kind t i) (omega arith)))
+    pub fault-later : (k d : ℕ) → k ≡ kind t i → k ≤ 5 → d ≡ firstNumber (refusalsAfterKind t i) → d ≡ firstNumber (nodeRefusals t i)
+    unfolding settled kindFault
+    fault-later k d e l h = h ∙ sym (ap (λ b. cond b 4 (firstNumber (refusalsAfterKind t i))) (le-ltb 5 (kind t i) (omega arith)))
+
+    pub fault-kind : (k : ℕ) → k ≡ kind t i → 5 < k → 4 ≡ firstNumber (nodeRefusals t i)
+    unfolding settled kindFault
+    fault-kind k e l = sym (ap (λ b. cond b 4 (firstNumber (refusalsAfterKind t i))) (lt-ltb 5 (kind t i) (omega arith)))

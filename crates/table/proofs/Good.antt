@@ -6,44 +6,14 @@ use mathlib.Core.List.{List}
 use Prim.Native.Nat.{ℕ, _≤_, _<_}
 use native.Mathlib.Nat.{pos-of-ne-zero}
 use borrow.Author.Tests.{ltb-false, eqb-true, eqb-false, not-false, le-leb, lt-leb}
-use lib.Dec.{ltb, eqb, lit<}
+use lib.Dec.{ltb, eqb}
 use Rattle.answer.specs.Fields.{fields}
+use Rattle.answer.specs.Refusals.{None}
 use Rattle.table.specs.Layout.{maximum, count, kind, span, card, low, high}
 use Rattle.table.specs.Tree.{isRule, endOf, parent, level}
-use Rattle.table.specs.Reading.{kindFault, oddSpan, wrongEnd, spanFault, levelFault, rangeFault, rangesFault, cardFault, faultAfterKind, nodeFault, Accepted}
+use Rattle.table.specs.Reading.{kindFault, oddSpan, wrongEnd, spanFault, levelFault, rangeFault, rangesFault, cardFault, nodeRefusals}
 use Rattle.table.proofs.Faults.{wrong-end-root, wrong-end-child}
-use Rattle.table.proofs.Tests.{neither, not-chosen, none-below}
-
--- none of refusals 4 to 8 applies to node i
-pub record NodePassed (t : List ℕ) (i : ℕ) : Type 0 where
-  pub kinds : kindFault t i ≡ false
-  pub spans : spanFault t i ≡ false
-  pub levels : levelFault t i ≡ false
-  pub ranges : rangesFault t i ≡ false
-  pub cards : cardFault t i ≡ false
-
-pub node-passed : (t : List ℕ) (i : ℕ) → nodeFault t i ≡ 0 → NodePassed t i
-unfolding nodeFault
-node-passed t i e =
-    let k = not-chosen (kindFault t i) 4 (faultAfterKind t i) (lit< tt) e in
-    let s = not-chosen (spanFault t i) 5 _ (lit< tt) (k .1) in
-    let l = not-chosen (levelFault t i) 6 _ (lit< tt) (s .1) in
-    let r = not-chosen (rangesFault t i) 7 _ (lit< tt) (l .1) in
-    let d = not-chosen (cardFault t i) 8 0 (lit< tt) (r .1) in
-    record { kinds = k .0; spans = s .0; levels = l .0; ranges = r .0; cards = d .0 }
-
-pub accepted-node : (t : List ℕ) → Accepted t → (i : ℕ) → i < count t → NodePassed t i
-accepted-node t c i l = record {
-  kinds = c .kinds i l;
-  spans = c .spans i l;
-  levels = c .levels i l;
-  ranges = c .ranges i l;
-  cards = c .cards i l;
-}
-
-pub no-fault : (t : List ℕ) (i : ℕ) → NodePassed t i → nodeFault t i ≡ 0
-unfolding nodeFault
-no-fault t i e = simp (e .kinds, e .spans, e .levels, e .ranges, e .cards)
+use Rattle.table.proofs.Tests.{neither, none-below}
 
 pub record Good (t : List ℕ) (i : ℕ) : Type 0 where
   pub kinds : kind t i ≤ 5
@@ -96,19 +66,21 @@ module _ (t : List ℕ) (i : ℕ) where
   unfolding kindFault
   kind-part e = ltb-false 5 (kind t i) e
 
-  pub good : NodePassed t i → Good t i
+  pub good : None (nodeRefusals t i) → Good t i
   good e =
-      let p = span-parts (e .spans) in
+      let p = span-parts (e .1 .0) in
+      let ranges = e .1 .1 .1 .0 in
+      let cards = e .1 .1 .1 .1 .0 in
       record {
-        kinds = kind-part (e .kinds);
+        kinds = kind-part (e .0);
         spans = pos-of-ne-zero (eqb-false (span t i) 0 (p .0));
         rules = λ h. eqb-true (span t i) 1
             (not-false _ (sym (ap (λ b. b && not (eqb (span t i) 1)) (le-leb 4 (kind t i) h)) ∙ p .1));
         root = λ z. eqb-true _ _ (not-false _ (sym (wrong-end-root t i z) ∙ p .2));
         inside = λ l. ltb-false _ _ (sym (wrong-end-child t i l) ∙ p .2);
-        levels = level-part (e .levels);
-        rising = λ f h. range-parts f (ranges-parts (e .ranges) f h) .0;
-        within = λ f h. range-parts f (ranges-parts (e .ranges) f h) .1;
-        carded = card-rule (e .cards);
-        plain = card-group (e .cards);
+        levels = level-part (e .1 .1 .0);
+        rising = λ f h. range-parts f (ranges-parts ranges f h) .0;
+        within = λ f h. range-parts f (ranges-parts ranges f h) .1;
+        carded = card-rule cards;
+        plain = card-group cards;
       }

@@ -1,56 +1,61 @@
 -- The maxima of a table: as many as there are fields, each that of its field, and at most 255; and written one after another.
 -- Assumes nothing.
-use mathlib.Core.Path.{_≡_, sym, ap, _∙_}
-use mathlib.Core.List.{List, _++_, append-nil}
-use Prim.Native.Nat.{ℕ, _+_, _-_, _≤_, _<_}
+use mathlib.Core.Path.{_≡_, refl, sym, ap, _∙_}
+use mathlib.Core.List.{List}
+use Prim.Native.Nat.{ℕ, zero, suc, _+_, _≤_, _<_}
 use native.Mathlib.Omega.{arith}
-use lib.ListN.{length, getD, take, drop, set, length-drop}
-use lib.Seq.{sets, take-all, length-take-le, getD-take, getD-drop}
+use borrow.Author.Count.{below-more}
+use lib.ListN.{length, getD, set}
+use lib.Seq.{getD-set-same, getD-set-other, ext-getD}
 use Rattle.answer.specs.Fields.{fields}
-use Rattle.answer.specs.Answers.{zeros}
 use Rattle.answer.specs.Requests.{value, fieldFault}
 use Rattle.answer.proofs.FirstField.{fault-alike}
-use Rattle.answer.proofs.Stored.{stored-more, stored-padded}
-use Rattle.table.specs.Layout.{Bytes, maximum, maxima, header}
-use Rattle.table.specs.Reading.{Accepted}
-use Rattle.table.proofs.Header.{accepted-header, headed}
+use Rattle.table.specs.Layout.{Bytes, maximum, valuesFrom, maxima}
+
+module _ (g : ℕ → ℕ) where
+  values-length : (k i : ℕ) → length (valuesFrom g i k) ≡ k
+  unfolding valuesFrom
+  values-length zero i = refl
+  values-length (suc k) i = ap suc (values-length k (i + 1))
+
+  values-each : (k i j : ℕ) → j < k → getD (valuesFrom g i k) j 0 ≡ g (i + j)
+  unfolding valuesFrom
+  values-each zero i j l = absurd (omega arith)
+  values-each (suc k) i zero l = let z : i ≡ i + 0 = omega arith in ap g z
+  values-each (suc k) i (suc j) l = let z : i + 1 + j ≡ i + suc j = omega arith in values-each k (i + 1) j (omega arith) ∙ ap g z
 
 module _ (t : List ℕ) where
-  -- one for each field, where there is a header
-  pub maxima-length : header ≤ length t → length (maxima t) ≡ fields
-  maxima-length l = length-take-le fields (drop 3 t) (omega (arith, length-drop 3 t))
-
-  pub accepted-maxima : Accepted t → length (maxima t) ≡ fields
-  accepted-maxima c = maxima-length (headed t (accepted-header t c) .long)
+  -- one for each field
+  pub maxima-length : length (maxima t) ≡ fields
+  unfolding maxima
+  maxima-length = values-length (maximum t) fields 0
 
   -- that of field f
   pub maxima-each : (f : ℕ) → f < fields → getD (maxima t) f 0 ≡ maximum t f
-  maxima-each f l = getD-take fields (drop 3 t) f 0 l ∙ getD-drop 3 t f 0
+  unfolding maxima
+  maxima-each f l = let z : 0 + f ≡ f = omega arith in values-each (maximum t) fields 0 f l ∙ ap (maximum t) z
 
   -- refusal 9 by all of them
-  pub maxima-fault : (ms q : List ℕ) → ms ≡ maxima t → fieldFault (value ms) q ≡ fieldFault (maximum t) q
-  maxima-fault ms q e = ap (λ ns. fieldFault (value ns) q) e ∙ fault-alike (value (maxima t)) (maximum t) q maxima-each
+  pub maxima-fault : (ms q : List ℕ) (from : ℕ) → from ≤ fields → ms ≡ maxima t → fieldFault (value ms) q from ≡ fieldFault (maximum t) q from
+  maxima-fault ms q from l e =
+      ap (λ ns. fieldFault (value ns) q from) e ∙ fault-alike (value (maxima t)) (maximum t) q from l maxima-each
 
   -- "(each 0 to 255)"
   pub maxima-bytes : Bytes t → (f : ℕ) → f < fields → getD (maxima t) f 0 ≤ 255
+  unfolding maximum
   maxima-bytes b f l = omega (arith, maxima-each f l, b (3 + f))
 
--- the maxima before a field's are written over zeros
-abbrev pub Written : List ℕ → ℕ → List ℕ → Type 0
-Written t field list = list ≡ sets (zeros fields) 0 (take field (maxima t))
+  -- the maxima before a field's are written
+  abbrev pub MaximaWritten : ℕ → List ℕ → Type 0
+  MaximaWritten field list = (f : ℕ) → f < field → getD list f 0 ≡ maximum t f
 
-module _ (t : List ℕ) (h : header ≤ length t) (field : ℕ) (list : List ℕ) (w : Written t field list) where
-  pub written-more : (m : ℕ) → field < fields → m ≡ maximum t field → Written t (field + 1) (set list field m)
-  written-more m l e =
-      ap (λ x. set x field m) w
-      ∙ ap (set (sets (zeros fields) 0 (take field (maxima t))) field) (e ∙ sym (maxima-each t field l))
-      ∙ stored-more (maxima t) (zeros fields) field (omega (arith, maxima-length t h))
+  module _ (field : ℕ) (list : List ℕ) (long : length list ≡ fields) (w : MaximaWritten field list) where
+    pub written-more : (m : ℕ) → field < fields → m ≡ maximum t field → MaximaWritten (field + 1) (set list field m)
+    written-more m l e =
+        below-more (λ f. getD (set list field m) f 0 ≡ maximum t f) field
+        (λ f k. getD-set-other list field f m 0 (λ q. omega arith) ∙ w f k)
+        (getD-set-same list field m 0 (omega arith) ∙ e)
 
-  pub written-all : field ≡ fields → list ≡ maxima t
-  written-all e =
-      let none : fields - length (maxima t) ≡ 0 = omega (arith, maxima-length t h) in
-      w
-      ∙ ap (sets (zeros fields) 0) (take-all field (maxima t) (omega (arith, maxima-length t h)))
-      ∙ stored-padded (maxima t) fields (omega (arith, maxima-length t h))
-      ∙ ap (λ n. maxima t ++ zeros n) none
-      ∙ append-nil (maxima t)
+    pub written-all : field ≡ fields → list ≡ maxima t
+    written-all e =
+        ext-getD 0 list (maxima t) (long ∙ sym maxima-length) (λ f l. w f (omega arith) ∙ sym (maxima-each f (omega arith)))

@@ -3,20 +3,22 @@
 use mathlib.Core.Path.{_≡_, refl, sym, ap, _∙_}
 use mathlib.Core.Logic.{⊎-elim}
 use mathlib.Core.List.{List}
-use Prim.Native.Nat.{ℕ, zero, suc, _+_, _-_, _≤_, _<_}
+use Prim.Native.Nat.{ℕ, zero, suc, _+_, _≤_, _<_}
 use native.Mathlib.Nat.{eq-zero-or-pos}
 use native.Mathlib.Omega.{arith}
+use borrow.Author.Count.{below-more}
 use lib.ListN.{length, getD, set, length-set}
 use lib.Seq.{getD-set-same, getD-set-other}
 use Rattle.answer.specs.Answers.{refused, counted}
+use Rattle.answer.specs.Refusals.{firstNumber, None}
 use Rattle.table.specs.Layout.{count, span}
 use Rattle.table.specs.Tree.{endOf, parent, level, Above, itself, further}
 use Rattle.table.specs.Open.{deepest, EndAbove}
-use Rattle.table.specs.Reading.{headerFault, nodeFault, readFrom, reading}
+use Rattle.table.specs.Reading.{headerRefusals, nodeRefusals, reading}
 use Rattle.table.proofs.Tree.{level-root, level-child, above-trans, above-level}
 use Rattle.table.proofs.Climb.{Open, climb}
-use Rattle.table.proofs.Header.{read-nodes, read-on, read-stop}
-use Rattle.table.proofs.Good.{good, node-passed}
+use Rattle.table.proofs.Good.{good}
+use Rattle.table.proofs.Accepting.{passed-accepted, node-refused, accepted-reading}
 
 module _ (t : List ℕ) (n : ℕ) where
   -- Before node i: all nodes before it pass, and where there are some, the ends are those of the last of them and of the nodes above it.
@@ -29,7 +31,7 @@ module _ (t : List ℕ) (n : ℕ) where
     pub first : i ≡ 0 → depth ≡ 0
     pub root : 0 < i → span t 0 ≡ count t
     pub last : (p : ℕ) → i ≡ suc p → (depth ≡ level t p) × Open t ends p
-    pub rest : readFrom t 0 n ≡ readFrom t i (n - i)
+    pub before : (j : ℕ) → j < i → None (nodeRefusals t j)
 
   pub start : (ends : List ℕ) → n ≡ count t → length ends ≡ 9 → getD ends 0 0 ≡ n → Passed ends 0 0
   start ends w s e = record {
@@ -41,7 +43,7 @@ module _ (t : List ℕ) (n : ℕ) where
     first = λ _. refl;
     root = λ l. absurd (omega arith);
     last = λ p z. absurd (omega arith);
-    rest = let z : n ≡ n - 0 = omega arith in ap (readFrom t 0) z;
+    before = λ j l. absurd (omega arith);
   }
 
   module _ (ends : List ℕ) (depth r : ℕ) where
@@ -86,11 +88,11 @@ module _ (t : List ℕ) (n : ℕ) where
             getD-set-other ends (r + 1) (level t a) e 0 (λ q. omega (arith, above-level t u, level-child t (suc p) h))
             ∙ o .held a (above-trans t (climb t ends p o (omega (arith, s .whole, s .root (omega arith))) .1) u)
 
-    pub next : (i e : ℕ) → Passed ends depth i → i < n → r ≡ deepest ends i depth → nodeFault t i ≡ 0 → e ≡ endOf t i →
+    pub next : (i e : ℕ) → Passed ends depth i → i < n → r ≡ deepest ends i depth → None (nodeRefusals t i) → e ≡ endOf t i →
         Passed (set ends (r + 1) e) (r + 1) (i + 1)
     next i e s l er ef ee =
         let f = found i s l er in
-        let g = good t i (node-passed t i ef) in
+        let g = good t i ef in
         let lr : r + 1 ≤ 8 = omega (arith, f .1, g .levels) in
         record {
           whole = s .whole;
@@ -103,21 +105,16 @@ module _ (t : List ℕ) (n : ℕ) where
           last = λ p q.
               let z : i ≡ p = omega arith in
               (sym (f .1) ∙ ap (level t) z, rw z at (opened i e s l (f .1) (omega arith) ee));
-          rest = let z : n - i ≡ suc (n - (i + 1)) = omega arith in s .rest ∙ ap (readFrom t i) z ∙ read-on t i (n - (i + 1)) ef;
+          before = below-more (λ j. None (nodeRefusals t j)) i (s .before) ef;
         }
 
     -- a node that is refused ends the reading
-    pub stopped : (i f : ℕ) → headerFault t ≡ 0 → Passed ends depth i → i < n → f ≡ nodeFault t i → (f ≡ 0 → ⊥) →
+    pub stopped : (i f : ℕ) → None (headerRefusals t) → Passed ends depth i → i < n → f ≡ firstNumber (nodeRefusals t i) → (f ≡ 0 → ⊥) →
         refused f i ≡ reading t
-    stopped i f h s l e ne =
-        let z : n - i ≡ suc (n - (i + 1)) = omega arith in
-        ap (λ k. refused k i) e
-        ∙ sym (read-nodes t h ∙ ap (readFrom t 0) (sym (s .whole)) ∙ s .rest ∙ ap (readFrom t i) z
-        ∙ read-stop t i (n - (i + 1)) (λ z. ne (e ∙ z)))
+    stopped i f h s l e ne = node-refused t h i f (omega (arith, s .whole)) (s .before) e ne
 
     -- so does the last node
-    pub finished : (i : ℕ) → headerFault t ≡ 0 → Passed ends depth i → n ≤ i → counted n ≡ reading t
+    pub finished : (i : ℕ) → None (headerRefusals t) → Passed ends depth i → n ≤ i → counted n ≡ reading t
     finished i h s l =
-        let z : n - i ≡ 0 = omega arith in
         ap counted (s .whole)
-        ∙ sym (read-nodes t h ∙ ap (readFrom t 0) (sym (s .whole)) ∙ s .rest ∙ ap (readFrom t i) z)
+        ∙ sym (accepted-reading t (passed-accepted t h (λ j m. s .before j (omega (arith, s .whole)))))

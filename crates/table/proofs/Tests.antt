@@ -1,7 +1,7 @@
--- Laws of tests: what a disjunction, a choice or a test of each number tells.
+-- Laws of tests: what a disjunction or a test of each number tells.
 -- Assumes nothing.
 use mathlib.Core.Path.{_≡_, refl, sym, ap, _∙_}
-use mathlib.Core.Bool.{Bool, true, false, cond, _||_, or-true, true≢false}
+use mathlib.Core.Bool.{Bool, true, false, _||_, or-true, true≢false}
 use mathlib.Core.Logic.{⊎-elim}
 use Prim.Native.Nat.{ℕ, zero, suc, _+_, _<_}
 use native.Mathlib.Nat.{eq-or-lt-of-le}
@@ -12,11 +12,6 @@ use Rattle.table.specs.Reading.{someBelow}
 pub neither : (a b : Bool) → (a || b) ≡ false → (a ≡ false) × (b ≡ false)
 neither true b e = absurd (true≢false e)
 neither false b e = (refl, e)
-
--- a choice between a positive number and another that gives 0 gave the other
-pub not-chosen : (b : Bool) (k x : ℕ) → 0 < k → cond b k x ≡ 0 → (b ≡ false) × (x ≡ 0)
-not-chosen true k x l e = absurd (omega arith)
-not-chosen false k x l e = (refl, e)
 
 module _ (p : ℕ → Bool) where
   pub some-true : (n k : ℕ) → k < n → p k ≡ true → someBelow n p ≡ true

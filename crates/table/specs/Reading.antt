@@ -1,20 +1,21 @@
 -- When a table is refused, and what reading one answers: document 01's refusals 1 to 8, in the order of its table.
 -- Assumes nothing: these are definitions.
 use mathlib.Core.Bool.{Bool, false, not, cond, _&&_, _||_}
-use mathlib.Core.List.{List}
-use mathlib.Core.Path.{_≡_}
-use Prim.Native.Nat.{ℕ, zero, suc, _+_, _<_}
+use mathlib.Core.List.{List, [], _∷_, _++_}
+use Prim.Native.Nat.{ℕ, zero, suc, _+_}
 use lib.Dec.{eqb, ltb}
 use lib.ListN.{length}
 use Rattle.answer.specs.Fields.{fields}
 use Rattle.answer.specs.Answers.{refused, counted}
+use Rattle.answer.specs.Refusals.{Refusal, row, upward, settled, None}
 use Rattle.answer.specs.declared.Answer.{Answer}
+use Rattle.combining.specs.Kinds.{denyRuleKind}
 use Rattle.table.specs.Layout.{bytesAfter, version, maximum, count, header, start, kind, span, card, low, high}
 use Rattle.table.specs.Tree.{isRule, endOf, parent, level}
 
 -- 1: "under 8 bytes, or slice length isn't bytes 0-1 plus 2"
 unfoldable pub lengthFault : List ℕ → Bool
-lengthFault t = ltb (length t) header || not (eqb (length t) (bytesAfter t + 2))
+lengthFault t = ltb (length t) (header t) || not (eqb (length t) (bytesAfter t + 2))
 
 -- 2: "version isn't 1"
 unfoldable pub versionFault : List ℕ → Bool
@@ -22,11 +23,11 @@ versionFault t = not (eqb (version t) 1)
 
 -- 3: "node count 0 or over 128, or slice length isn't 8 + 11 × count"
 unfoldable pub countFault : List ℕ → Bool
-countFault t = eqb (count t) 0 || ltb 128 (count t) || not (eqb (length t) (start (count t)))
+countFault t = eqb (count t) 0 || ltb 128 (count t) || not (eqb (length t) (start t (count t)))
 
 -- 4: "kind over 5"
 unfoldable pub kindFault : List ℕ → ℕ → Bool
-kindFault t i = ltb 5 (kind t i)
+kindFault t i = ltb denyRuleKind (kind t i)
 
 -- of 5: "span 0; rule's span not 1", of a span and whether its node is a rule
 abbrev pub oddSpan : ℕ → Bool → Bool
@@ -61,35 +62,27 @@ rangesFault t i = someBelow fields (rangeFault t i)
 unfoldable pub cardFault : List ℕ → ℕ → Bool
 cardFault t i = cond (isRule t i) (eqb (card t i) 0) (not (eqb (card t i) 0))
 
--- "Order: 1, 2, 3": the number of the refusal of the whole table; 0 where none applies
-unfoldable pub headerFault : List ℕ → ℕ
-headerFault t = cond (lengthFault t) 1 (cond (versionFault t) 2 (cond (countFault t) 3 0))
+-- "Order: 1, 2, 3": the refusals of the whole table
+abbrev pub headerRefusals : List ℕ → List Refusal
+headerRefusals t = row 1 0 (lengthFault t) ∷ row 2 0 (versionFault t) ∷ row 3 0 (countFault t) ∷ []
 
--- "lowest number first within a node": the number of the first of refusals 5 to 8 of node i; 0 where none applies
-abbrev pub faultAfterKind : List ℕ → ℕ → ℕ
-faultAfterKind t i =
-    cond (spanFault t i) 5 (cond (levelFault t i) 6 (cond (rangesFault t i) 7 (cond (cardFault t i) 8 0)))
+-- "lowest number first within a node": those of node i after 4
+abbrev pub refusalsAfterKind : List ℕ → ℕ → List Refusal
+refusalsAfterKind t i =
+    row 5 i (spanFault t i) ∷ row 6 i (levelFault t i) ∷ row 7 i (rangesFault t i) ∷ row 8 i (cardFault t i) ∷ []
 
--- "lowest number first within a node": the number of the refusal of node i; 0 where none applies
-unfoldable pub nodeFault : List ℕ → ℕ → ℕ
-nodeFault t i = cond (kindFault t i) 4 (faultAfterKind t i)
+-- "lowest number first within a node": those of node i
+abbrev pub nodeRefusals : List ℕ → ℕ → List Refusal
+nodeRefusals t i = row 4 i (kindFault t i) ∷ refusalsAfterKind t i
 
--- "then nodes upward": what the k nodes from i upward answer
-abbrev pub readFrom : List ℕ → ℕ → ℕ → Answer
-readFrom t i zero = counted (count t)
-readFrom t i (suc k) = cond (eqb (nodeFault t i) 0) (readFrom t (i + 1) k) (refused (nodeFault t i) i)
+-- "Order: 1, 2, 3; then nodes upward, lowest number first within a node": refusals 1 to 8 of a table
+unfoldable pub tableRefusals : List ℕ → List Refusal
+tableRefusals t = headerRefusals t ++ upward (nodeRefusals t) 0 (count t)
 
 -- What reading a table answers: "a reading alone counts nodes".
-unfoldable pub reading : List ℕ → Answer
-reading t = cond (eqb (headerFault t) 0) (readFrom t 0 (count t)) (refused (headerFault t) 0)
+abbrev pub reading : List ℕ → Answer
+reading t = settled refused (counted (count t)) (tableRefusals t)
 
 -- "A table is accepted when none of refusals 1 to 8 applies to it"
-pub record Accepted (t : List ℕ) : Type 0 where
-  pub lengths : lengthFault t ≡ false
-  pub versions : versionFault t ≡ false
-  pub counts : countFault t ≡ false
-  pub kinds : (i : ℕ) → i < count t → kindFault t i ≡ false
-  pub spans : (i : ℕ) → i < count t → spanFault t i ≡ false
-  pub levels : (i : ℕ) → i < count t → levelFault t i ≡ false
-  pub ranges : (i : ℕ) → i < count t → rangesFault t i ≡ false
-  pub cards : (i : ℕ) → i < count t → cardFault t i ≡ false
+abbrev pub Accepted : List ℕ → Type 0
+Accepted t = None (tableRefusals t)

@@ -4,11 +4,12 @@ use mathlib.Core.Bool.{Bool, cond}
 use mathlib.Core.List.{List}
 use Prim.Native.Nat.{ℕ, zero, suc, _+_, _<_}
 use lib.Dec.{eqb, leb, ltb}
+use Rattle.combining.specs.Kinds.{permitRuleKind}
 use Rattle.table.specs.Layout.{kind, span}
 
 -- "Kinds 4 and 5 are rules". A kind over 5 is refused before this is asked.
 abbrev pub isRule : List ℕ → ℕ → Bool
-isRule t i = leb 4 (kind t i)
+isRule t i = leb permitRuleKind (kind t i)
 
 -- "A span counts a node and all nodes under it; they follow it directly": the first node after them
 abbrev pub endOf : List ℕ → ℕ → ℕ

@@ -10,7 +10,7 @@ use Rattle.table.specs.Tree.{endOf, level}
 
 pub record WellFormed (t : List ℕ) : Type 0 where
   -- the table holds its records and nothing more, 1 to 128 of them
-  pub records : length t ≡ start (count t)
+  pub records : length t ≡ start t (count t)
   pub some : 1 ≤ count t
   pub few : count t ≤ 128
   -- kinds are 0 to 5

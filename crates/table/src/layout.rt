@@ -1,10 +1,10 @@
 // The bytes of a table, in one place: a fourth field changes FIELDS, and what is computed from it here.
 use answer::FIELDS;
 ghost use mathlib.Core.Path.{_≡_};
-ghost use Prim.Native.Nat.{_+_, _*_, _≤_, _<_};
+ghost use Prim.Native.Nat.{_+_, _*_, _^_, _<_};
 ghost use lib.ListN.{length};
 ghost use Rattle.answer.specs.Fields.{fields};
-ghost use Rattle.table.specs.Layout.{word, maximum, maxima, count, header, start, kind, span, card, low, high};
+ghost use Rattle.table.specs.Layout.{word, maximum, maxima, count, header, start, recordByte, recordWord, kind, span, card, low, high, HeaderHeld, NodeHeld};
 
 // The header: bytes after the first two (2), version (1), a maximum for each field, number of nodes (2).
 pub const VERSION: usize = 2;
@@ -13,16 +13,18 @@ const MAXIMA: usize = 3;
 
 const COUNT: usize = MAXIMA + FIELDS;
 
-pub const HEADER: usize = COUNT + 2;
+const HEADER: usize = COUNT + 2;
 
 // A record: kind (1), span (2), card (2), low and high for each field.
+const KIND: usize = 0;
+
 const SPAN: usize = 1;
 
 const CARD: usize = 3;
 
 const RANGES: usize = 5;
 
-pub const RECORD: usize = RANGES + 2 * FIELDS;
+const RECORD: usize = RANGES + 2 * FIELDS;
 
 // How many nodes a table may have.
 pub const NODES: usize = 128;
@@ -45,9 +47,24 @@ pub fn word_at(table: &[u8], p: usize) -> u16
     joined(table[p], table[p + 1])
 }
 
+// How many bytes the header of a table has.
+pub fn header_size(table: &[u8]) -> usize
+    ensures { λ r. ⌜ r ≡ header (now (table .entry)) ⌝ }
+{
+    HEADER
+}
+
+// Where the record of node i starts.
+pub fn start_of(table: &[u8], i: usize) -> usize
+    requires { ⌜ start (now table) i < 2 ^ 64 ⌝ }
+    ensures { λ r. ⌜ r ≡ start (now (table .entry)) i ⌝ }
+{
+    HEADER + RECORD * i
+}
+
 // How many nodes the table says it has.
 pub fn count_at(table: &[u8]) -> usize
-    requires { ⌜ header ≤ length (now table) ⌝ }
+    requires { ⌜ HeaderHeld (now table) ⌝ }
     ensures { λ r. ⌜ (r ≡ count (now (table .entry))) × (r < 65536) ⌝ }
 {
     word_at(table, COUNT) as usize
@@ -55,7 +72,7 @@ pub fn count_at(table: &[u8]) -> usize
 
 // The largest value of a field.
 pub fn maximum_at(table: &[u8], field: usize) -> u8
-    requires { ⌜ (header ≤ length (now table)) × (field < fields) ⌝ }
+    requires { ⌜ HeaderHeld (now table) × (field < fields) ⌝ }
     ensures { λ r. ⌜ r ≡ maximum (now (table .entry)) field ⌝ }
 {
     table[MAXIMA + field]
@@ -63,7 +80,7 @@ pub fn maximum_at(table: &[u8], field: usize) -> u8
 
 // The largest value of each field, in field order.
 pub fn maxima_at(table: &[u8]) -> [u16; FIELDS]
-    requires { ⌜ header ≤ length (now table) ⌝ }
+    requires { ⌜ HeaderHeld (now table) ⌝ }
     ensures { λ r. ⌜ r ≡ maxima (now (table .entry)) ⌝ }
 {
     let mut maxima = [0u16; FIELDS];
@@ -75,42 +92,58 @@ pub fn maxima_at(table: &[u8]) -> [u16; FIELDS]
     maxima
 }
 
+// The byte at place k of node i's record.
+fn record_byte(table: &[u8], i: usize, k: usize) -> u8
+    requires { ⌜ NodeHeld (now table) i × (k < 5 + 2 * fields) ⌝ }
+    ensures { λ r. ⌜ r ≡ recordByte (now (table .entry)) i k ⌝ }
+{
+    table[start_of(table, i) + k]
+}
+
+// The number of the two bytes at place k of node i's record.
+fn record_word(table: &[u8], i: usize, k: usize) -> u16
+    requires { ⌜ NodeHeld (now table) i × (k + 1 < 5 + 2 * fields) ⌝ }
+    ensures { λ r. ⌜ (r ≡ recordWord (now (table .entry)) i k) × (r < 65536) ⌝ }
+{
+    word_at(table, start_of(table, i) + k)
+}
+
 // Node i's kind.
 pub fn kind_at(table: &[u8], i: usize) -> u8
-    requires { ⌜ start (i + 1) ≤ length (now table) ⌝ }
+    requires { ⌜ NodeHeld (now table) i ⌝ }
     ensures { λ r. ⌜ r ≡ kind (now (table .entry)) i ⌝ }
 {
-    table[HEADER + RECORD * i]
+    record_byte(table, i, KIND)
 }
 
 // Node i's span.
 pub fn span_at(table: &[u8], i: usize) -> usize
-    requires { ⌜ start (i + 1) ≤ length (now table) ⌝ }
+    requires { ⌜ NodeHeld (now table) i ⌝ }
     ensures { λ r. ⌜ (r ≡ span (now (table .entry)) i) × (r < 65536) ⌝ }
 {
-    word_at(table, HEADER + RECORD * i + SPAN) as usize
+    record_word(table, i, SPAN) as usize
 }
 
 // Node i's card.
 pub fn card_at(table: &[u8], i: usize) -> u16
-    requires { ⌜ start (i + 1) ≤ length (now table) ⌝ }
+    requires { ⌜ NodeHeld (now table) i ⌝ }
     ensures { λ r. ⌜ (r ≡ card (now (table .entry)) i) × (r < 65536) ⌝ }
 {
-    word_at(table, HEADER + RECORD * i + CARD)
+    record_word(table, i, CARD)
 }
 
 // The low end of node i's range in a field.
 pub fn low_at(table: &[u8], i: usize, field: usize) -> u8
-    requires { ⌜ (start (i + 1) ≤ length (now table)) × (field < fields) ⌝ }
+    requires { ⌜ NodeHeld (now table) i × (field < fields) ⌝ }
     ensures { λ r. ⌜ r ≡ low (now (table .entry)) i field ⌝ }
 {
-    table[HEADER + RECORD * i + RANGES + 2 * field]
+    record_byte(table, i, RANGES + 2 * field)
 }
 
 // The high end of node i's range in a field.
 pub fn high_at(table: &[u8], i: usize, field: usize) -> u8
-    requires { ⌜ (start (i + 1) ≤ length (now table)) × (field < fields) ⌝ }
+    requires { ⌜ NodeHeld (now table) i × (field < fields) ⌝ }
     ensures { λ r. ⌜ r ≡ high (now (table .entry)) i field ⌝ }
 {
-    table[HEADER + RECORD * i + RANGES + 2 * field + 1]
+    record_byte(table, i, RANGES + 2 * field + 1)
 }

@@ -1,34 +1,35 @@
 // Reading a table: refusals 1 to 8, in one pass over the nodes.
-use crate::layout::HEADER;
 use crate::layout::LEVELS;
 use crate::layout::NODES;
-use crate::layout::RECORD;
 use crate::layout::VERSION;
 use crate::layout::card_at;
 use crate::layout::count_at;
+use crate::layout::header_size;
 use crate::layout::high_at;
 use crate::layout::kind_at;
 use crate::layout::low_at;
 use crate::layout::maximum_at;
 use crate::layout::span_at;
+use crate::layout::start_of;
 use crate::layout::word_at;
 use answer::Answer;
 use answer::FIELDS;
+use combining::Kind;
 ghost use mathlib.Core.Path.{_≡_};
 ghost use Prim.Native.Nat.{_+_, _≤_, _<_};
-ghost use lib.ListN.{length};
 ghost use Rattle.answer.specs.Fields.{fields};
-ghost use Rattle.table.specs.Layout.{header, start};
+ghost use Rattle.answer.specs.Refusals.{firstNumber};
+ghost use Rattle.table.specs.Layout.{HeaderHeld, NodeHeld};
 ghost use Rattle.table.specs.Tree.{isRule, level};
 ghost use Rattle.table.specs.Open.{deepest, EndAbove};
-ghost use Rattle.table.specs.Reading.{lengthFault, versionFault, countFault, headerFault};
-ghost use Rattle.table.specs.Reading.{oddSpan, spanFault, rangeFault, rangesFault, cardFault, faultAfterKind, nodeFault, reading};
+ghost use Rattle.table.specs.Reading.{lengthFault, versionFault, countFault, oddSpan, spanFault, rangeFault, rangesFault, cardFault};
+ghost use Rattle.table.specs.Reading.{headerRefusals, refusalsAfterKind, nodeRefusals, reading};
 
 // Refusal 1: the slice is too short, or not as long as it says.
 fn length_fault(table: &[u8]) -> bool
     ensures { λ r. ⌜ r ≡ lengthFault (now (table .entry)) ⌝ }
 {
-    if table.len() < HEADER {
+    if table.len() < header_size(table) {
         true
     } else {
         table.len() != word_at(table, 0) as usize + 2
@@ -37,7 +38,7 @@ fn length_fault(table: &[u8]) -> bool
 
 // Refusal 2: another version.
 fn version_fault(table: &[u8]) -> bool
-    requires { ⌜ header ≤ length (now table) ⌝ }
+    requires { ⌜ HeaderHeld (now table) ⌝ }
     ensures { λ r. ⌜ r ≡ versionFault (now (table .entry)) ⌝ }
 {
     table[VERSION] != 1
@@ -45,7 +46,7 @@ fn version_fault(table: &[u8]) -> bool
 
 // Refusal 3: no nodes, too many, or not the records that the count says.
 fn count_fault(table: &[u8]) -> bool
-    requires { ⌜ header ≤ length (now table) ⌝ }
+    requires { ⌜ HeaderHeld (now table) ⌝ }
     ensures { λ r. ⌜ r ≡ countFault (now (table .entry)) ⌝ }
 {
     let n = count_at(table);
@@ -54,13 +55,13 @@ fn count_fault(table: &[u8]) -> bool
     } else if NODES < n {
         true
     } else {
-        table.len() != HEADER + RECORD * n
+        table.len() != start_of(table, n)
     }
 }
 
 // The number of the refusal of the whole table, or 0.
 fn header_fault(table: &[u8]) -> u8
-    ensures { λ r. ⌜ r ≡ headerFault (now (table .entry)) ⌝ }
+    ensures { λ r. ⌜ r ≡ firstNumber (headerRefusals (now (table .entry))) ⌝ }
 {
     if length_fault(table) {
         1
@@ -88,7 +89,7 @@ fn odd_span(span: usize, rule: bool) -> bool
 
 // Refusal 5, where the nodes that node i stands among end at above.
 fn span_fault(table: &[u8], i: usize, rule: bool, above: usize) -> bool
-    requires { ⌜ start (i + 1) ≤ length (now table) ⌝ }
+    requires { ⌜ NodeHeld (now table) i ⌝ }
     requires { ⌜ (rule ≡ isRule (now table) i) × EndAbove (now table) i above ⌝ }
     ensures { λ r. ⌜ r ≡ spanFault (now (table .entry)) i ⌝ }
 {
@@ -104,7 +105,7 @@ fn span_fault(table: &[u8], i: usize, rule: bool, above: usize) -> bool
 
 // Refusal 7 in one field.
 fn range_fault(table: &[u8], i: usize, field: usize) -> bool
-    requires { ⌜ start (i + 1) ≤ length (now table) ⌝ }
+    requires { ⌜ NodeHeld (now table) i ⌝ }
     requires { ⌜ field < fields ⌝ }
     ensures { λ r. ⌜ r ≡ rangeFault (now (table .entry)) i field ⌝ }
 {
@@ -118,7 +119,7 @@ fn range_fault(table: &[u8], i: usize, field: usize) -> bool
 
 // Refusal 7: a low over its high, or a high over the maximum.
 fn ranges_fault(table: &[u8], i: usize) -> bool
-    requires { ⌜ start (i + 1) ≤ length (now table) ⌝ }
+    requires { ⌜ NodeHeld (now table) i ⌝ }
     ensures { λ r. ⌜ r ≡ rangesFault (now (table .entry)) i ⌝ }
 {
     let mut field = 0;
@@ -133,7 +134,7 @@ fn ranges_fault(table: &[u8], i: usize) -> bool
 
 // Refusal 8: a rule with card 0, or a group with another.
 fn card_fault(table: &[u8], i: usize, rule: bool) -> bool
-    requires { ⌜ start (i + 1) ≤ length (now table) ⌝ }
+    requires { ⌜ NodeHeld (now table) i ⌝ }
     requires { ⌜ rule ≡ isRule (now table) i ⌝ }
     ensures { λ r. ⌜ r ≡ cardFault (now (table .entry)) i ⌝ }
 {
@@ -143,10 +144,10 @@ fn card_fault(table: &[u8], i: usize, rule: bool) -> bool
 
 // Refusals 5 to 8 of node i, under a node on level depth.
 fn fault_of(table: &[u8], i: usize, rule: bool, above: usize, depth: usize) -> u8
-    requires { ⌜ start (i + 1) ≤ length (now table) ⌝ }
+    requires { ⌜ NodeHeld (now table) i ⌝ }
     requires { ⌜ (rule ≡ isRule (now table) i) × EndAbove (now table) i above ⌝ }
     requires { ⌜ level (now table) i ≡ depth + 1 ⌝ }
-    ensures { λ r. ⌜ r ≡ faultAfterKind (now (table .entry)) i ⌝ }
+    ensures { λ r. ⌜ r ≡ firstNumber (refusalsAfterKind (now (table .entry)) i) ⌝ }
 {
     if span_fault(table, i, rule, above) {
         5
@@ -163,14 +164,14 @@ fn fault_of(table: &[u8], i: usize, rule: bool, above: usize, depth: usize) -> u
 
 // The number of the refusal of node i, or 0.
 fn node_fault(table: &[u8], i: usize, above: usize, depth: usize) -> u8
-    requires { ⌜ start (i + 1) ≤ length (now table) ⌝ }
+    requires { ⌜ NodeHeld (now table) i ⌝ }
     requires { ⌜ EndAbove (now table) i above × (level (now table) i ≡ depth + 1) ⌝ }
-    ensures { λ r. ⌜ r ≡ nodeFault (now (table .entry)) i ⌝ }
+    ensures { λ r. ⌜ r ≡ firstNumber (nodeRefusals (now (table .entry)) i) ⌝ }
 {
     let kind = kind_at(table, i);
     match kind {
-        0..=3 => fault_of(table, i, false, above, depth),
-        4..=5 => fault_of(table, i, true, above, depth),
+        Kind::FIRST_APPLICABLE..=Kind::DENY_OVERRIDES => fault_of(table, i, false, above, depth),
+        Kind::PERMIT_RULE..=Kind::DENY_RULE => fault_of(table, i, true, above, depth),
         _ => 4,
     }
 }

@@ -5,19 +5,10 @@ use Rattle.applying.proofs.FieldAlone.{range-tested}
 use Rattle.applying.proofs.holds.Statement.{statement}
 use Rattle.applying.proofs.holds.Tie as tie
 
-low-at-requires : tie.Need-low-at-requires
-low-at-requires c κs = search needs
-
-high-at-requires : tie.Need-high-at-requires
-high-at-requires c κs = search needs
-
-in-range-requires : tie.Need-in-range-requires
-in-range-requires c κs = search needs
-
 returns : tie.Need-returns
 returns c =
     let s = c .before .before .before .before .args in
     range-tested (s .table .now) (s .field) (s .value) (s .i) (c .before .before .low-at .result) (c .before .high-at .result) (c .in-range .result) (c .before .before .low-at .ensures) (c .before .high-at .ensures) (c .in-range .ensures)
 
 pub holds-spec : {M : Type 1} → statement M
-holds-spec = tie.close (tie.spec low-at-requires high-at-requires in-range-requires returns)
+holds-spec = tie.close (tie.spec (λ c κs. search needs) (λ c κs. search needs) (λ c κs. search needs) returns)

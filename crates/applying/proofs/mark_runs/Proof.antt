@@ -23,9 +23,6 @@ set-at-requires c κs = omega (arith, c .before .before .before .pre .0 .1, c .b
 set-at-requires-2 : tie.Need-set-at-requires-2 Inv-loop μ-loop
 set-at-requires-2 c κs = omega (arith, c .before .before .before .before .before .pre .0 .1)
 
-same-requires : tie.Need-same-requires Inv-loop μ-loop
-same-requires c κs = search needs
-
 mul-t13 : tie.Need-mul-t13 Inv-loop μ-loop
 mul-t13 c = omega (arith, c .before .before .before .before .before .before .before .before .pre .0 .1, c .before .before .before .before .before .before .before .loop .inv .below)
 
@@ -35,40 +32,21 @@ element-set-from-row c = omega (arith, c .before .before .before .before .before
 add-value : tie.Need-add-value Inv-loop μ-loop
 add-value c = omega (arith, c .before .before .before .before .before .before .before .before .pre .0 .1)
 
-loop-less : tie.Need-loop-less Inv-loop μ-loop
-loop-less c = search needs
-
 loop-again : tie.Need-loop-again Inv-loop μ-loop
 loop-again c = marked-same (c .before .before .before .before .before .before .before .before .args .most) (c .before .before .before .before .before .before .before .before .args .row .now) (c .before .before .before .before .before .before .before .loop .row) (c .before .before .before .before .before .before .before .loop .start) (c .before .before .before .before .before .before .before .loop .value) (c .before .before .before .before .before .before .loop-test .taken) (c .before .before .before .before .before .before .before .loop .inv) (c .before .before .before .before .set-at .result) (c .before .before .set-at2 .result) (c .before .before .before .before .before .before .before .before .pre .0 .1) (c .before .before .before .before .set-at .ensures) (c .before .before .set-at2 .ensures) (sym (c .before .same .ensures) ∙ c .if1 .taken)
 
 add-value-2 : tie.Need-add-value-2 Inv-loop μ-loop
 add-value-2 c = omega (arith, c .before .before .before .before .before .before .before .before .pre .0 .1)
 
-loop-less-2 : tie.Need-loop-less-2 Inv-loop μ-loop
-loop-less-2 c = search needs
-
 loop-again-2 : tie.Need-loop-again-2 Inv-loop μ-loop
 loop-again-2 c = marked-other (c .before .before .before .before .before .before .before .before .args .most) (c .before .before .before .before .before .before .before .before .args .row .now) (c .before .before .before .before .before .before .before .loop .row) (c .before .before .before .before .before .before .before .loop .start) (c .before .before .before .before .before .before .before .loop .value) (c .before .before .before .before .before .before .loop-test .taken) (c .before .before .before .before .before .before .before .loop .inv)
 
 returns : tie.Need-returns Inv-loop μ-loop
-returns c = (c .before .loop .inv .long, (c .before .loop .inv .kept, marked-all (c .before .before .args .most) (c .before .before .args .row .now) (c .before .loop .row) (c .before .loop .start) (c .before .loop .value) (c .loop-test .left) (c .before .loop .inv)))
+returns c = (c .before .loop .inv .long, (c .before .loop .inv .kept, (marked-all (c .before .before .args .most) (c .before .before .args .row .now) (c .before .loop .row) (c .before .loop .start) (c .before .loop .value) (c .loop-test .left) (c .before .loop .inv), c .before .loop .inv .past)))
 
 pub mark-runs-spec : {M : Type 1} → statement M
 mark-runs-spec =
     tie.close
     (tie.spec
-    Inv-loop
-    μ-loop
-    loop-holds
-    set-at-requires
-    set-at-requires-2
-    same-requires
-    mul-t13
-    element-set-from-row
-    add-value
-    loop-less
-    loop-again
-    add-value-2
-    loop-less-2
-    loop-again-2
-    returns)
+    Inv-loop μ-loop loop-holds set-at-requires set-at-requires-2 (λ c κs. search needs) mul-t13 element-set-from-row add-value
+    (λ c. search needs) loop-again add-value-2 (λ c. search needs) loop-again-2 returns)

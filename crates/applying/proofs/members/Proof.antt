@@ -5,36 +5,28 @@ use Prim.Native.Nat.{_+_, _-_}
 use native.Mathlib.Omega.{arith}
 use borrow.Author.Needs.{needs}
 use Rattle.table.specs.Tree.{endOf}
-use Rattle.applying.proofs.FieldAlone.{Walked, walk-starts, walk-ends, node-in, nodes-out}
+use Rattle.table.proofs.Places.{header-held, node-held}
+use Rattle.applying.proofs.FieldAlone.{MembersBelow, walk-starts, walk-ends, node-in, nodes-out}
 use Rattle.applying.proofs.members.Statement.{statement}
 use Rattle.applying.proofs.members.Tie as tie
 
 abbrev Inv-loop : tie.InvT-loop
-Inv-loop table field value count set₀ i₀ set i = Walked table field value set i
+Inv-loop table field value count set₀ i₀ set i = MembersBelow table field value set i
 
 abbrev μ-loop : tie.MeasureT-loop
 μ-loop table field value count set₀ i₀ set i = count - i
 
 count-at-requires : tie.Need-count-at-requires Inv-loop μ-loop
-count-at-requires c κs = omega (arith, c .before .pre .0 .records)
-
-empty-requires : tie.Need-empty-requires Inv-loop μ-loop
-empty-requires c κs = search needs
+count-at-requires c κs = header-held (c .before .args .table .now) (c .before .pre .0 .records)
 
 loop-holds : tie.Need-loop-holds Inv-loop μ-loop
 loop-holds c = walk-starts (c .before .before .before .args .table .now) (c .before .before .before .args .field) (c .before .before .before .args .value) (c .empty .result) (c .empty .ensures)
 
 holds-requires : tie.Need-holds-requires Inv-loop μ-loop
-holds-requires c κs = (omega (arith, c .before .before .before .before .before .pre .0 .records, c .before .before .before .count-at .ensures .0), c .before .before .before .before .before .pre .1)
+holds-requires c κs = (node-held (c .before .before .before .before .before .args .table .now) (c .before .before .before .before .before .pre .0 .records) (c .before .loop .i) (omega (arith, c .before .before .before .count-at .ensures .0)), c .before .before .before .before .before .pre .1)
 
 with-requires : tie.Need-with-requires Inv-loop μ-loop
 with-requires c κs = omega (arith, c .before .before .before .before .before .before .before .pre .0 .few, c .before .before .before .before .before .count-at .ensures .0)
-
-add-i : tie.Need-add-i Inv-loop μ-loop
-add-i c = search needs
-
-loop-less : tie.Need-loop-less Inv-loop μ-loop
-loop-less c = search needs
 
 loop-again : tie.Need-loop-again Inv-loop μ-loop
 loop-again c =
@@ -42,10 +34,7 @@ loop-again c =
     node-in (s .table .now) (s .field) (s .value) (c .before .before .before .before .before .before .before .before .pre .0) (c .before .before .before .before .loop .i) (omega (arith, c .before .before .before .before .before .before .count-at .ensures .0)) (c .before .before .before .before .loop .set) (c .with .result) (sym (c .before .before .holds .ensures) ∙ c .before .if1 .taken) (c .with .ensures) (c .before .before .before .before .loop .inv)
 
 span-at-requires : tie.Need-span-at-requires Inv-loop μ-loop
-span-at-requires c κs = omega (arith, c .before .before .before .before .before .before .before .pre .0 .records, c .before .before .before .before .before .count-at .ensures .0)
-
-add-i-2 : tie.Need-add-i-2 Inv-loop μ-loop
-add-i-2 c = search needs
+span-at-requires c κs = node-held (c .before .before .before .before .before .before .before .args .table .now) (c .before .before .before .before .before .before .before .pre .0 .records) (c .before .before .before .loop .i) (omega (arith, c .before .before .before .before .before .count-at .ensures .0))
 
 loop-less-2 : tie.Need-loop-less-2 Inv-loop μ-loop
 loop-less-2 c = omega (arith, c .before .before .before .before .before .before .before .before .pre .0 .spans (c .before .before .before .before .loop .i) (omega (arith, c .before .before .before .before .before .before .count-at .ensures .0)), c .span-at .ensures .0)
@@ -63,18 +52,5 @@ pub members-spec : {M : Type 1} → statement M
 members-spec =
     tie.close
     (tie.spec
-    Inv-loop
-    μ-loop
-    count-at-requires
-    empty-requires
-    loop-holds
-    holds-requires
-    with-requires
-    add-i
-    loop-less
-    loop-again
-    span-at-requires
-    add-i-2
-    loop-less-2
-    loop-again-2
-    returns)
+    Inv-loop μ-loop count-at-requires (λ c κs. search needs) loop-holds holds-requires with-requires (λ c. search needs)
+    (λ c. search needs) loop-again span-at-requires (λ c. search needs) loop-less-2 loop-again-2 returns)

@@ -8,15 +8,6 @@ use Rattle.applying.proofs.Marking.{ends-here, ends-at}
 use Rattle.applying.proofs.run_end.Statement.{statement}
 use Rattle.applying.proofs.run_end.Tie as tie
 
-mul-last : tie.Need-mul-last
-mul-last c = search needs
-
-index-1-last : tie.Need-index-1-last
-index-1-last c = search needs
-
-index-2-last : tie.Need-index-2-last
-index-2-last c = search needs
-
 returns : tie.Need-returns
 returns c = (ends-here (thirdAt (c .before .before .args .row .now) (c .before .before .args .value)) (c .before .before .args .value) (c .if1 .taken), omega arith)
 
@@ -26,4 +17,4 @@ returns-2 c =
     (ends-at third (c .before .before .args .value) third refl (c .if1 .left), c .if1 .left)
 
 pub run-end-spec : {M : Type 1} → statement M
-run-end-spec = tie.close (tie.spec mul-last index-1-last index-2-last returns returns-2)
+run-end-spec = tie.close (tie.spec (λ c. search needs) (λ c. search needs) (λ c. search needs) returns returns-2)

@@ -3,6 +3,7 @@
 use mathlib.Core.List.{List, [], _∷_}
 use Prim.Native.Nat.{ℕ}
 use borrow.Author.Needs.{needs}
+use Rattle.combining.specs.Ways.{notApplicable, permit, deny, indeterminate}
 use Rattle.combining.proofs.Table.{rule}
 use Rattle.combining.proofs.combined.Statement.{statement}
 use Rattle.combining.proofs.combined.Tie as tie
@@ -10,36 +11,23 @@ use Rattle.combining.proofs.combined.Tie as tie
 row : ℕ → ℕ → ℕ → ℕ → List ℕ
 row a b c d = a ∷ b ∷ c ∷ d ∷ []
 
--- the constant of the code, as a list of lists of lists
-table : List (List (List ℕ))
-table =
-    (row 0 1 2 3 ∷ row 1 1 1 1 ∷ row 2 2 2 2 ∷ row 3 3 3 3 ∷ [])
-    ∷ (row 0 1 2 3 ∷ row 1 3 3 3 ∷ row 2 3 3 3 ∷ row 3 3 3 3 ∷ [])
-    ∷ (row 0 1 2 3 ∷ row 1 1 1 1 ∷ row 2 1 2 2 ∷ row 3 1 2 3 ∷ [])
-    ∷ (row 0 1 2 2 ∷ row 1 1 2 2 ∷ row 2 2 2 2 ∷ row 2 2 2 2 ∷ [])
+-- the constant of the code, as a list of lists of lists, of the four decisions
+table : ℕ → ℕ → ℕ → ℕ → List (List (List ℕ))
+table n p d i =
+    (row n p d i ∷ row p p p p ∷ row d d d d ∷ row i i i i ∷ [])
+    ∷ (row n p d i ∷ row p i i i ∷ row d i i i ∷ row i i i i ∷ [])
+    ∷ (row n p d i ∷ row p p p p ∷ row d p d d ∷ row i p d i ∷ [])
+    ∷ (row n p d d ∷ row p p d d ∷ row d d d d ∷ row d d d d ∷ [])
     ∷ []
-
-mul-result : tie.Need-mul-result
-mul-result c = search needs
-
-mul-result-2 : tie.Need-mul-result-2
-mul-result-2 c = search needs
-
-index-1-result : tie.Need-index-1-result
-index-1-result c = search needs
-
-index-2-result : tie.Need-index-2-result
-index-2-result c = search needs
-
-index-3-result : tie.Need-index-3-result
-index-3-result c = search needs
 
 returns : tie.Need-returns
 unfolding row table
 returns c =
-    rule table tt (c .before .args .kind) (c .before .args .running) (c .before .args .child) (search needs) (search needs) (search needs)
+    let s = c .before .before .args in
+    rule (table notApplicable permit deny indeterminate) tt (c .before .block-of .ensures) (s .running) (s .child) (search needs) (search needs) (search needs)
 
 pub combined-spec : {M : Type 1} → statement M
 combined-spec =
     tie.close
-    (tie.spec mul-result mul-result-2 index-1-result index-2-result index-3-result returns)
+    (tie.spec
+    (λ c κs. search needs) (λ c. search needs) (λ c. search needs) (λ c. search needs) (λ c. search needs) (λ c. search needs) returns)

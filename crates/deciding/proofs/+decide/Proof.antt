@@ -10,10 +10,11 @@ use Rattle.combining.proofs.Running.take.Reads as take-reads
 use Rattle.table.proofs.layout.kind_at.Reads as kind-at-reads
 use Rattle.table.proofs.layout.span_at.Reads as span-at-reads
 use Rattle.ruling.proofs.Steps.{held}
+use Rattle.ruling.proofs.Decisions.{takes, ruled-rule}
 use Rattle.ruling.proofs.groups.effect_of.Reads as effect-of-reads
 use Rattle.sets.specs.Sets.{most, has}
 use Rattle.sets.proofs.Set.next.Reads as next-reads
-use Rattle.deciding.proofs.MemberByMember.{Before, of-rule, before-first, before-child, before-next, before-end, next-within}
+use Rattle.deciding.proofs.MemberByMember.{Before, before-first, before-child, before-next, before-end, next-within}
 use Rattle.deciding.proofs.decide.Reads as decide
 use Rattle.deciding.proofs.decide.Kinds as decide-kinds
 use Rattle.deciding.proofs.+decide.Lts-decide as decide-lts
@@ -49,7 +50,7 @@ decide-claims t = (
 
 abbrev decide-Inv-loop : decide-lts.InvT-loop
 decide-Inv-loop table applying i kind end running₀ child₀ running child =
-    Before (has applying) table i end child (running .kind) (running .decision)
+    Before (has applying) table i end child running
 
 abbrev decide-μ-loop : decide-lts.MeasureT-loop
 decide-μ-loop table applying i kind end running₀ child₀ running child = most - child
@@ -63,7 +64,7 @@ decide-effect-of-requires t c κs = tt
 decide-returns : (t : ℕ) → decide-lts.Need-returns (decide-claims t) (decide-at t) decide.Post decide-Inv-loop decide-μ-loop
 decide-returns t c =
     let s = c .before .before .before .before .args in
-    of-rule (has (s .applying)) (s .table .now) (s .i) (c .before .before .kind-at .result) (c .effect-of .result) (c .before .before .before .before .pre .1 .1 .1 .1) (c .before .before .kind-at .ensures) (c .before .if1 .taken) (c .effect-of .ensures)
+    ruled-rule (has (s .applying)) (s .table .now) (s .i) (c .before .before .kind-at .result) (c .effect-of .result) (c .before .before .before .before .pre .1 .1 .1 .1) (c .before .before .kind-at .ensures) (c .before .if1 .taken) (c .effect-of .ensures)
 
 decide-span-at-requires : (t : ℕ) → decide-lts.Need-span-at-requires (decide-claims t) (decide-at t) decide.Post decide-Inv-loop decide-μ-loop
 decide-span-at-requires t c κs = held (c .before .before .before .args .table .now) (c .before .before .before .pre .1 .0) (c .before .before .before .args .i) (c .before .before .before .pre .1 .1 .1 .0)
@@ -72,7 +73,7 @@ decide-add-end : (t : ℕ) → decide-lts.Need-add-end (decide-claims t) (decide
 decide-add-end t c = omega (arith, c .before .before .before .before .pre .1 .0 .few)
 
 decide-start-requires : (t : ℕ) → decide-lts.Need-start-requires (decide-claims t) (decide-at t) decide.Post decide-Inv-loop decide-μ-loop
-decide-start-requires t c κs = tt
+decide-start-requires t c κs = c .before .if1 .left
 
 decide-add-next : (t : ℕ) → decide-lts.Need-add-next (decide-claims t) (decide-at t) decide.Post decide-Inv-loop decide-μ-loop
 decide-add-next t c = omega (arith, c .before .before .before .before .before .pre .1 .0 .few)
@@ -83,7 +84,7 @@ decide-next-requires t c κs = omega (arith, c .before .before .before .before .
 decide-loop-holds : (t : ℕ) → decide-lts.Need-loop-holds (decide-claims t) (decide-at t) decide.Post decide-Inv-loop decide-μ-loop
 decide-loop-holds t c =
     let p = c .before .before .before .before .before .before .pre .1 in
-    before-first (p .0) (p .1 .0) (p .1 .1) (c .before .before .before .before .kind-at .ensures) (c .before .before .before .if1 .left) (c .before .before .span-at .ensures .0) refl (c .before .start .ensures .0) (c .before .start .ensures .1) (c .next .ensures)
+    before-first (p .0) (p .1 .0) (p .1 .1) (c .before .before .before .before .kind-at .ensures) (c .before .before .before .if1 .left) (c .before .before .span-at .ensures .0) refl (c .before .start .ensures) (c .next .ensures)
 
 decide-decide-requires : (t : ℕ) → decide-lts.Need-decide-requires (decide-claims t) (decide-at t) decide.Post decide-Inv-loop decide-μ-loop
 decide-decide-requires t c κs =
@@ -92,7 +93,10 @@ decide-decide-requires t c κs =
     (omega (arith, c .before .loop .inv .later, h .0, p .1 .0 .few, p .0), (p .1 .0, (p .1 .1 .0, h)))
 
 decide-take-requires : (t : ℕ) → decide-lts.Need-take-requires (decide-claims t) (decide-at t) decide.Post decide-Inv-loop decide-μ-loop
-decide-take-requires t c κs = (c .before .before .loop .inv .steady .group, c .before .before .loop .inv .steady .one-of-four, c .decide .ensures .1)
+decide-take-requires t c κs =
+    let s = c .before .before .before .before .before .before .before .before .before .args in
+    let l = c .before .before .loop in
+    takes (has (s .applying)) (s .table .now) (l .child) (l .inv .reachable) (c .decide .ensures)
 
 decide-span-at-requires-2 : (t : ℕ) → decide-lts.Need-span-at-requires-2 (decide-claims t) (decide-at t) decide.Post decide-Inv-loop decide-μ-loop
 decide-span-at-requires-2 t c κs =
@@ -118,7 +122,7 @@ decide-loop-less t c =
 decide-loop-again : (t : ℕ) → decide-lts.Need-loop-again (decide-claims t) (decide-at t) decide.Post decide-Inv-loop decide-μ-loop
 decide-loop-again t c =
     let p = c .before .before .before .before .before .before .before .before .before .before .before .before .pre .1 in
-    before-next (p .0) (p .1 .0) (c .before .before .before .before .before .loop .inv) (c .before .before .before .before .loop-test .taken) (c .before .before .before .decide .ensures) (c .before .before .take .ensures .0) (c .before .before .take .ensures .1) (c .before .before .take .ensures .2) (c .before .span-at2 .ensures .0) (c .next2 .ensures)
+    before-next (p .0) (p .1 .0) (c .before .before .before .before .before .loop .inv) (c .before .before .before .before .loop-test .taken) (c .before .before .before .decide .ensures) (c .before .before .take .ensures) (c .before .span-at2 .ensures .0) (c .next2 .ensures)
 
 decide-returns-2 : (t : ℕ) → decide-lts.Need-returns-2 (decide-claims t) (decide-at t) decide.Post decide-Inv-loop decide-μ-loop
 decide-returns-2 t c = before-end (c .before .before .before .before .before .before .before .before .pre .1 .0) (c .before .before .before .before .before .before .before .before .pre .1 .1 .0) (c .before .loop .inv) (c .loop-test .left)

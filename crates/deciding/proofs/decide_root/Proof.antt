@@ -7,9 +7,6 @@ use Rattle.sets.specs.Sets.{has}
 use Rattle.deciding.proofs.decide_root.Statement.{statement}
 use Rattle.deciding.proofs.decide_root.Tie as tie
 
-has-requires : tie.Need-has-requires
-has-requires c κs = search needs
-
 decide-requires : tie.Need-decide-requires
 decide-requires c κs =
     let p = c .before .before .before .pre in (
@@ -17,13 +14,10 @@ decide-requires c κs =
       (p .1, (p .0 .some, sym (c .before .has .ensures) ∙ c .if1 .taken)),
     )
 
-returns : tie.Need-returns
-returns c = search needs
-
 returns-2 : tie.Need-returns-2
 returns-2 c =
     let s = c .before .before .before .args in
     ruled-not (has (s .applying)) (s .table .now) 0 (sym (c .before .has .ensures) ∙ c .if1 .left)
 
 pub decide-root-spec : {M : Type 1} → statement M
-decide-root-spec = tie.close (tie.spec has-requires decide-requires returns returns-2)
+decide-root-spec = tie.close (tie.spec (λ c κs. search needs) decide-requires (λ c. search needs) returns-2)

@@ -6,6 +6,7 @@ use Prim.Native.Nat.{_-_, _<_}
 use native.Mathlib.Omega.{arith}
 use borrow.Author.Needs.{needs}
 use Rattle.table.specs.Layout as layout
+use Rattle.table.proofs.Places.{header-held}
 use Rattle.ruling.proofs.Steps.{held}
 use Rattle.sets.specs.Sets.{most, has}
 use Rattle.deciding.proofs.CardByCard.{Before, before-first, after-rule, after-group, before-end, stored-few, as-long}
@@ -19,10 +20,7 @@ abbrev μ-loop : tie.MeasureT-loop
 μ-loop table applying list₀ count stored₀ i₀ list stored i = most - i
 
 count-at-requires : tie.Need-count-at-requires Inv-loop μ-loop
-count-at-requires c κs = omega (arith, (c .before .before .pre) .records)
-
-next-requires : tie.Need-next-requires Inv-loop μ-loop
-next-requires c κs = search needs
+count-at-requires c κs = header-held (c .before .before .args .table .now) (c .before .before .pre .records)
 
 loop-holds : tie.Need-loop-holds Inv-loop μ-loop
 loop-holds c = before-first (c .before .before .before .before .pre) (c .next .ensures)
@@ -66,18 +64,5 @@ pub gather-spec : {M : Type 1} → statement M
 gather-spec =
     tie.close
     (tie.spec
-    Inv-loop
-    μ-loop
-    count-at-requires
-    next-requires
-    loop-holds
-    kind-at-requires
-    card-at-requires
-    put-requires
-    add-stored
-    add-next
-    next-requires-2
-    loop-less
-    loop-again
-    same-length
-    returns)
+    Inv-loop μ-loop count-at-requires (λ c κs. search needs) loop-holds kind-at-requires card-at-requires put-requires add-stored add-next
+    next-requires-2 loop-less loop-again same-length returns)

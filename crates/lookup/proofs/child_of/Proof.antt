@@ -8,24 +8,6 @@ use Rattle.diagram.specs.Layout.{childAt}
 use Rattle.lookup.proofs.child_of.Statement.{statement}
 use Rattle.lookup.proofs.child_of.Tie as tie
 
-edge-of-requires : tie.Need-edge-of-requires
-edge-of-requires c κs = search needs
-
-add-result : tie.Need-add-result
-add-result c = search needs
-
-mul-result : tie.Need-mul-result
-mul-result c = search needs
-
-add-result-2 : tie.Need-add-result-2
-add-result-2 c = search needs
-
-mul-result-2 : tie.Need-mul-result-2
-mul-result-2 c = search needs
-
-shared-slice-read-result : tie.Need-shared-slice-read-result
-shared-slice-read-result c = search needs
-
 cast-result : tie.Need-cast-result
 cast-result c = omega (arith, c .shared-slice-known2 .given (c .before .before .before .args .place + 3 + 2 * c .before .edge-of .result))
 
@@ -36,11 +18,5 @@ pub child-of-spec : {M : Type 1} → statement M
 child-of-spec =
     tie.close
     (tie.spec
-    edge-of-requires
-    add-result
-    mul-result
-    add-result-2
-    mul-result-2
-    shared-slice-read-result
-    cast-result
+    (λ c κs. search needs) (λ c. search needs) (λ c. search needs) (λ c. search needs) (λ c. search needs) (λ c. search needs) cast-result
     returns)

@@ -15,85 +15,37 @@ Inv-loop diagram place value low₀ high₀ low high = Halved diagram place valu
 abbrev μ-loop : tie.MeasureT-loop
 μ-loop diagram place value low₀ high₀ low high = high - low
 
-add-high : tie.Need-add-high Inv-loop μ-loop
-add-high c = search needs
-
-mul-high : tie.Need-mul-high Inv-loop μ-loop
-mul-high c = search needs
-
-shared-slice-read-high : tie.Need-shared-slice-read-high Inv-loop μ-loop
-shared-slice-read-high c = search needs
-
-cast-high : tie.Need-cast-high Inv-loop μ-loop
-cast-high c = search needs
-
 sub-high : tie.Need-sub-high Inv-loop μ-loop
 sub-high c = omega (arith, c .before .pre .1 .0 .some-edge)
 
 loop-holds : tie.Need-loop-holds Inv-loop μ-loop
-loop-holds c = halved-all fields (c .before .args .diagram .now) (c .before .args .place) (c .before .args .value) (c .before .pre .1 .0) _ (c .before .pre .1 .1) refl
-
-sub-middle : tie.Need-sub-middle Inv-loop μ-loop
-sub-middle c = search needs
-
-add-middle : tie.Need-add-middle Inv-loop μ-loop
-add-middle c = search needs
-
-add-if1 : tie.Need-add-if1 Inv-loop μ-loop
-add-if1 c = search needs
-
-mul-if1 : tie.Need-mul-if1 Inv-loop μ-loop
-mul-if1 c = search needs
-
-add-if1-2 : tie.Need-add-if1-2 Inv-loop μ-loop
-add-if1-2 c = search needs
-
-mul-if1-2 : tie.Need-mul-if1-2 Inv-loop μ-loop
-mul-if1-2 c = search needs
-
-shared-slice-read-if1 : tie.Need-shared-slice-read-if1 Inv-loop μ-loop
-shared-slice-read-if1 c = search needs
-
-add-low : tie.Need-add-low Inv-loop μ-loop
-add-low c = search needs
-
-loop-less : tie.Need-loop-less Inv-loop μ-loop
-loop-less c = search needs
+loop-holds c =
+    let s = c .before in
+    halved-all fields (s .args .diagram .now) (s .args .place) (s .args .value) (s .pre .1 .0) _ (s .pre .1 .1) refl
 
 loop-again : tie.Need-loop-again Inv-loop μ-loop
-loop-again c = halved-up fields (c .before .before .before .before .before .args .diagram .now) (c .before .before .before .before .before .args .place) (c .before .before .before .before .before .args .value) (c .before .before .before .before .before .pre .1 .0) (c .before .before .before .loop .low) (c .before .before .before .loop .high) _ _ (c .before .before .before .loop .inv) (omega arith) refl (c .if1 .taken)
-
-loop-less-2 : tie.Need-loop-less-2 Inv-loop μ-loop
-loop-less-2 c = search needs
+loop-again c =
+    let a = c .before .before .before in
+    let s = a .before .before in
+    halved-up fields (s .args .diagram .now) (s .args .place) (s .args .value) (s .pre .1 .0) (a .loop .low) (a .loop .high) _ _ (a .loop .inv)
+    (omega arith) refl (c .if1 .taken)
 
 loop-again-2 : tie.Need-loop-again-2 Inv-loop μ-loop
-loop-again-2 c = halved-down (c .before .before .before .before .before .args .diagram .now) (c .before .before .before .before .before .args .place) (c .before .before .before .before .before .args .value) (c .before .before .before .loop .low) (c .before .before .before .loop .high) _ _ (c .before .before .before .loop .inv) (omega arith) (omega arith) refl (c .if1 .left)
+loop-again-2 c =
+    let a = c .before .before .before in
+    let s = a .before .before .args in
+    halved-down (s .diagram .now) (s .place) (s .value) (a .loop .low) (a .loop .high) _ _ (a .loop .inv) (omega arith) (omega arith) refl (c .if1 .left)
 
 returns : tie.Need-returns Inv-loop μ-loop
-returns c = halved-one (c .before .before .before .args .diagram .now) (c .before .before .before .args .place) (c .before .before .before .args .value) (c .before .loop .low) (c .before .loop .high) (c .before .loop .inv) (c .loop-test .left)
+returns c =
+    let a = c .before in
+    let s = a .before .before .args in
+    halved-one (s .diagram .now) (s .place) (s .value) (a .loop .low) (a .loop .high) (a .loop .inv) (c .loop-test .left)
 
 pub edge-of-spec : {M : Type 1} → statement M
 edge-of-spec =
     tie.close
     (tie.spec
-    Inv-loop
-    μ-loop
-    add-high
-    mul-high
-    shared-slice-read-high
-    cast-high
-    sub-high
-    loop-holds
-    sub-middle
-    add-middle
-    add-if1
-    mul-if1
-    add-if1-2
-    mul-if1-2
-    shared-slice-read-if1
-    add-low
-    loop-less
-    loop-again
-    loop-less-2
-    loop-again-2
-    returns)
+    Inv-loop μ-loop (λ c. search needs) (λ c. search needs) (λ c. search needs) (λ c. search needs) sub-high loop-holds (λ c. search needs)
+    (λ c. search needs) (λ c. search needs) (λ c. search needs) (λ c. search needs) (λ c. search needs) (λ c. search needs)
+    (λ c. search needs) (λ c. search needs) loop-again (λ c. search needs) loop-again-2 returns)

@@ -5,11 +5,8 @@ use Rattle.sets.proofs.WordPlaces.{bit-read}
 use Rattle.sets.proofs.bit_at.Statement.{statement}
 use Rattle.sets.proofs.bit_at.Tie as tie
 
-shr-result : tie.Need-shr-result
-shr-result c = search needs
-
 returns : tie.Need-returns
 returns c = bit-read (c .args .word) (c .args .i)
 
 pub bit-at-spec : {M : Type 1} → statement M
-bit-at-spec = tie.close (tie.spec shr-result returns)
+bit-at-spec = tie.close (tie.spec (λ c. search needs) returns)

@@ -8,9 +8,6 @@ use Rattle.sets.proofs.NextNumber.{next-none, next-some, next-within}
 use Rattle.sets.proofs.next_at.Statement.{statement}
 use Rattle.sets.proofs.next_at.Tie as tie
 
-shr-rest : tie.Need-shr-rest
-shr-rest c = search needs
-
 cast-result : tie.Need-cast-result
 cast-result c = omega (arith, trailing-le 64 (c .before .args .word / 2 ^ c .before .args .i))
 
@@ -28,4 +25,4 @@ returns-2 c =
     next-some (c .before .args .word) (c .before .args .i) l (omega arith)
 
 pub next-at-spec : {M : Type 1} → statement M
-next-at-spec = tie.close (tie.spec shr-rest cast-result add-result returns returns-2)
+next-at-spec = tie.close (tie.spec (λ c. search needs) cast-result add-result returns returns-2)

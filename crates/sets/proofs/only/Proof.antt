@@ -5,11 +5,8 @@ use Rattle.sets.proofs.WordPlaces.{bit-only}
 use Rattle.sets.proofs.only.Statement.{statement}
 use Rattle.sets.proofs.only.Tie as tie
 
-shl-result : tie.Need-shl-result
-shl-result c = search needs
-
 returns : tie.Need-returns
 returns c = λ j. bit-only (c .args .i) j (c .pre)
 
 pub only-spec : {M : Type 1} → statement M
-only-spec = tie.close (tie.spec shl-result returns)
+only-spec = tie.close (tie.spec (λ c. search needs) returns)

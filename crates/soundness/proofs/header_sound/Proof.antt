@@ -34,11 +34,4 @@ pub header-sound-spec : {M : Type 1} → statement M
 header-sound-spec =
     tie.close
     (tie.spec
-    returns
-    shared-slice-read-end
-    cast-end
-    returns-2
-    returns-3
-    returns-4
-    maxima-sound-requires
-    returns-5)
+    returns shared-slice-read-end cast-end returns-2 returns-3 returns-4 maxima-sound-requires returns-5)

@@ -15,29 +15,8 @@ Inv-loop diagram place count i₀ i = (count ≡ countAt diagram place) × (coun
 abbrev μ-loop : tie.MeasureT-loop
 μ-loop diagram place count i₀ i = count - i
 
-add-if1 : tie.Need-add-if1 Inv-loop μ-loop
-add-if1 c = search needs
-
-mul-if1 : tie.Need-mul-if1 Inv-loop μ-loop
-mul-if1 c = search needs
-
-shared-slice-read-if1 : tie.Need-shared-slice-read-if1 Inv-loop μ-loop
-shared-slice-read-if1 c = search needs
-
 returns : tie.Need-returns Inv-loop μ-loop
 returns c = decision-over (c .before .before .args .diagram .now) (c .before .before .args .place) _ refl (c .if1 .taken)
-
-add-count : tie.Need-add-count Inv-loop μ-loop
-add-count c = search needs
-
-mul-count : tie.Need-mul-count Inv-loop μ-loop
-mul-count c = search needs
-
-shared-slice-read-count : tie.Need-shared-slice-read-count Inv-loop μ-loop
-shared-slice-read-count c = search needs
-
-cast-count : tie.Need-cast-count Inv-loop μ-loop
-cast-count c = search needs
 
 returns-2 : tie.Need-returns-2 Inv-loop μ-loop
 returns-2 c = cards-over (c .before .before .before .before .args .diagram .now) (c .before .before .before .before .args .place) _ refl (c .if2 .taken)
@@ -45,26 +24,8 @@ returns-2 c = cards-over (c .before .before .before .before .args .diagram .now)
 loop-holds : tie.Need-loop-holds Inv-loop μ-loop
 loop-holds c = (refl, c .if2 .left, omega arith, λ j h. absurd (omega arith))
 
-add-if3 : tie.Need-add-if3 Inv-loop μ-loop
-add-if3 c = search needs
-
-add-if3-2 : tie.Need-add-if3-2 Inv-loop μ-loop
-add-if3-2 c = search needs
-
-mul-if3 : tie.Need-mul-if3 Inv-loop μ-loop
-mul-if3 c = search needs
-
-shared-slice-read-if3 : tie.Need-shared-slice-read-if3 Inv-loop μ-loop
-shared-slice-read-if3 c = search needs
-
 returns-3 : tie.Need-returns-3 Inv-loop μ-loop
 returns-3 c = card-zero (c .before .before .before .before .before .before .before .before .args .diagram .now) (c .before .before .before .before .before .before .before .before .args .place) (c .before .before .before .loop .i) _ refl (c .if3 .taken) (omega (arith, c .before .before .before .loop .inv .0))
-
-add-i : tie.Need-add-i Inv-loop μ-loop
-add-i c = search needs
-
-loop-less : tie.Need-loop-less Inv-loop μ-loop
-loop-less c = search needs
 
 loop-again : tie.Need-loop-again Inv-loop μ-loop
 loop-again c = (c .before .before .before .loop .inv .0, c .before .before .before .loop .inv .1, omega arith, none-zero-more (c .before .before .before .before .before .before .before .before .args .diagram .now) (c .before .before .before .before .before .before .before .before .args .place) (c .before .before .before .loop .i) _ refl (c .if3 .left) (c .before .before .before .loop .inv .3))
@@ -76,24 +37,6 @@ pub terminal-sound-spec : {M : Type 1} → statement M
 terminal-sound-spec =
     tie.close
     (tie.spec
-    Inv-loop
-    μ-loop
-    add-if1
-    mul-if1
-    shared-slice-read-if1
-    returns
-    add-count
-    mul-count
-    shared-slice-read-count
-    cast-count
-    returns-2
-    loop-holds
-    add-if3
-    add-if3-2
-    mul-if3
-    shared-slice-read-if3
-    returns-3
-    add-i
-    loop-less
-    loop-again
-    returns-4)
+    Inv-loop μ-loop (λ c. search needs) (λ c. search needs) (λ c. search needs) (λ c. search needs) returns (λ c. search needs)
+    (λ c. search needs) (λ c. search needs) (λ c. search needs) returns-2 loop-holds (λ c. search needs) (λ c. search needs)
+    (λ c. search needs) (λ c. search needs) returns-3 (λ c. search needs) (λ c. search needs) loop-again returns-4)

@@ -25,17 +25,8 @@ module _ (d : List ℕ) (used root : ℕ) where
   begun-long : diagram-layout.header fields ≤ length d → 2 ≤ length begun
   begun-long h = omega (arith, begun-length)
 
-slice-write-diagram : tie.Need-slice-write-diagram
-slice-write-diagram c = search needs
-
 slice-write-diagram-2 : tie.Need-slice-write-diagram-2
 slice-write-diagram-2 c = simp length-set (omega arith)
-
-maxima-at-requires : tie.Need-maxima-at-requires
-maxima-at-requires c κs = search needs
-
-slice-aggregate-store : tie.Need-slice-aggregate-store
-slice-aggregate-store c = search needs
 
 sub-store : tie.Need-sub-store
 sub-store c = simp length-set (omega arith)
@@ -43,32 +34,21 @@ sub-store c = simp length-set (omega arith)
 part-store-start : tie.Need-part-store-start
 part-store-start c = simp length-set (omega arith)
 
-part-store-end : tie.Need-part-store-end
-part-store-end c = search needs
-
 store-requires : tie.Need-store-requires
 store-requires c κs =
-    omega (arith, rest-length (begun (c .before .before .before .before .before .args .diagram .now) (c .before .before .before .before .before .args .used) (c .before .before .before .before .before .args .root)) 2 (begun-long (c .before .before .before .before .before .args .diagram .now) (c .before .before .before .before .before .args .used) (c .before .before .before .before .before .args .root) (c .before .before .before .before .before .pre .1)), begun-length (c .before .before .before .before .before .args .diagram .now) (c .before .before .before .before .before .args .used) (c .before .before .before .before .before .args .root), maxima-length (c .before .before .before .before .before .args .table .now) (c .before .before .before .before .before .pre .0), ap length (c .before .before .maxima-at .ensures))
+    omega (arith, rest-length (begun (c .before .before .before .before .before .args .diagram .now) (c .before .before .before .before .before .args .used) (c .before .before .before .before .before .args .root)) 2 (begun-long (c .before .before .before .before .before .args .diagram .now) (c .before .before .before .before .before .args .used) (c .before .before .before .before .before .args .root) (c .before .before .before .before .before .pre .1)), begun-length (c .before .before .before .before .before .args .diagram .now) (c .before .before .before .before .before .args .used) (c .before .before .before .before .before .args .root), maxima-length (c .before .before .before .before .before .args .table .now), ap length (c .before .before .maxima-at .ensures))
 
 same-length : tie.Need-same-length
 same-length c = rest-kept (begun (c .before .before .before .before .before .before .before .before .args .diagram .now) (c .before .before .before .before .before .before .before .before .args .used) (c .before .before .before .before .before .before .before .before .args .root)) (c .before .before .store .last .1 .0) 2 (begun-long (c .before .before .before .before .before .before .before .before .args .diagram .now) (c .before .before .before .before .before .before .before .before .args .used) (c .before .before .before .before .before .before .before .before .args .root) (c .before .before .before .before .before .before .before .before .pre .1)) (c .before .before .store .kept .1 .0) ∙ begun-length (c .before .before .before .before .before .before .before .before .args .diagram .now) (c .before .before .before .before .before .before .before .before .args .used) (c .before .before .before .before .before .before .before .before .args .root)
 
 returns : tie.Need-returns
 returns c =
-    rest-stored (begun (c .before .before .before .before .before .before .before .before .args .diagram .now) (c .before .before .before .before .before .before .before .before .args .used) (c .before .before .before .before .before .before .before .before .args .root)) (c .before .before .before .before .before .maxima-at .result) (c .before .before .store .last .1 .0) 2 (omega (arith, begun-length (c .before .before .before .before .before .before .before .before .args .diagram .now) (c .before .before .before .before .before .before .before .before .args .used) (c .before .before .before .before .before .before .before .before .args .root), maxima-length (c .before .before .before .before .before .before .before .before .args .table .now) (c .before .before .before .before .before .before .before .before .pre .0), ap length (c .before .before .before .before .before .maxima-at .ensures), c .before .before .before .before .before .before .before .before .pre .1)) (c .before .before .store .ensures)
+    rest-stored (begun (c .before .before .before .before .before .before .before .before .args .diagram .now) (c .before .before .before .before .before .before .before .before .args .used) (c .before .before .before .before .before .before .before .before .args .root)) (c .before .before .before .before .before .maxima-at .result) (c .before .before .store .last .1 .0) 2 (omega (arith, begun-length (c .before .before .before .before .before .before .before .before .args .diagram .now) (c .before .before .before .before .before .before .before .before .args .used) (c .before .before .before .before .before .before .before .before .args .root), maxima-length (c .before .before .before .before .before .before .before .before .args .table .now), ap length (c .before .before .before .before .before .maxima-at .ensures), c .before .before .before .before .before .before .before .before .pre .1)) (c .before .before .store .ensures)
     ∙ ap (sets (begun (c .before .before .before .before .before .before .before .before .args .diagram .now) (c .before .before .before .before .before .before .before .before .args .used) (c .before .before .before .before .before .before .before .before .args .root)) 2) (c .before .before .before .before .before .maxima-at .ensures)
 
 pub write-header-spec : {M : Type 1} → statement M
 write-header-spec =
     tie.close
     (tie.spec
-    slice-write-diagram
-    slice-write-diagram-2
-    maxima-at-requires
-    slice-aggregate-store
-    sub-store
-    part-store-start
-    part-store-end
-    store-requires
-    same-length
-    returns)
+    (λ c. search needs) slice-write-diagram-2 (λ c κs. search needs) (λ c. search needs) sub-store part-store-start (λ c. search needs)
+    store-requires same-length returns)

@@ -6,9 +6,6 @@ use borrow.Author.Needs.{needs}
 use Rattle.building.proofs.remembering.is_known.Statement.{statement}
 use Rattle.building.proofs.remembering.is_known.Tie as tie
 
-same-requires : tie.Need-same-requires
-same-requires c κs = search needs
-
 returns : tie.Need-returns
 returns c e = absurd (false≢true e)
 
@@ -16,4 +13,4 @@ returns-2 : tie.Need-returns-2
 returns-2 c e = (c .before .if1 .left, sym (c .same .ensures) ∙ e)
 
 pub is-known-spec : {M : Type 1} → statement M
-is-known-spec = tie.close (tie.spec same-requires returns returns-2)
+is-known-spec = tie.close (tie.spec (λ c κs. search needs) returns returns-2)

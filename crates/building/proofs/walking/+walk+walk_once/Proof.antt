@@ -1,24 +1,34 @@
 -- `building::walking::walk` and `walk_once`, which call each other, meet their contracts: before a value, those below it are walked. The fields left fall.
 -- Assumes nothing.
 use mathlib.Core.Path.{_≡_, refl, _∙_}
-use Prim.Native.Nat.{ℕ, _+_, _-_, _*_, _≤_, _<_}
+use mathlib.Core.List.{List}
+use Prim.Native.Nat.{ℕ, suc, _+_, _-_, _*_, _≤_, _<_}
 use native.Mathlib.Omega.{arith}
 use borrow.Author.Needs.{needs}
 use borrow.Fn.Kinds.{In}
 use borrow.Fn.PlainCycle.{Measures, is, falls, and}
 use lib.ListN.{length}
 use Rattle.answer.specs.Fields.{fields}
+use Rattle.sets.specs.Sets.{has}
+use Rattle.sets.specs.declared.Set.{Set}
 use Rattle.sets.proofs.Set.meet.Reads as meet-reads
 use Rattle.table.specs.Layout.{maximum}
 use Rattle.table.proofs.layout.maximum_at.Reads as maximum-at-reads
+use Rattle.applying.specs.Members.{rulingFrom}
 use Rattle.applying.proofs.run_end.Reads as run-end-reads
 use Rattle.applying.proofs.set_at.Reads as set-at-reads
+use Rattle.diagram.specs.Layout.{mostPlaces}
+use Rattle.diagram.specs.Walk.{Entries}
+use Rattle.entering.specs.Walking.{Held}
+use Rattle.entering.proofs.WalkedBefore.{walks-as}
+use Rattle.entering.proofs.Levels.{walkLevel}
+use Rattle.entering.proofs.ValueByValue.{kept-both, kept-on, Before, before-first, walks-terminal, value-full, value-next, values-done}
 use Rattle.entering.proofs.edges.extend.Reads as extend-reads
 use Rattle.entering.proofs.enter_node.Reads as enter-node-reads
-use Rattle.building.specs.Walked.{Held}
-use Rattle.building.proofs.FieldByField.{header-there, left-at, left-closed, run-alike}
-use Rattle.building.proofs.ValueByValue.{Before, before-first, kept-itself, kept-on, walked-last, value-full, value-next, values-done}
-use Rattle.building.proofs.Remembered.{known-near, known-seen, walked-full, walked-new}
+use Rattle.building.specs.Walked.{walkBy, Remembers, RemembersNear}
+use Rattle.building.specs.declared.remembering.Known.{Known}
+use Rattle.building.proofs.FieldByField.{header-there, walk-last, levelBy, level-deep, walk-field, ValueRun, value-run, run-within, left-closed, run-alike, walks-value, value-near}
+use Rattle.building.proofs.Remembered.{remembers-on, known-near, known-seen, walked-anew, walked-noted}
 use Rattle.building.proofs.walking.walk.Reads as walk
 use Rattle.building.proofs.walking.walk.Kinds as walk-kinds
 use Rattle.building.proofs.walking.+walk+walk_once.Lts-walk as walk-lts
@@ -86,314 +96,262 @@ walk-once-claims t = (
   remember-reads.Learnt,
 )
 
+-- What holds before a value of a field, in the loop.
+record Turn (table : List ℕ) (field : ℕ) (possible : Set) (diagram₀ : List ℕ) (end : ℕ) (index₀ : List ℕ) (seen₀ last₀ child₀ : List (List ℕ)) (most : ℕ)
+    (diagram index : List ℕ) (seen last child : List (List ℕ)) (near : Known) (at edges value : ℕ) : Type 0 where
+  inside : field < fields
+  most-is : most ≡ maximum table field
+  most-small : most ≤ 255
+  near-small : near .place < mostPlaces
+  before : Before (levelBy table field (has possible)) (Held (Remembers table seen₀) diagram₀ index₀ end) (RemembersNear table seen (field + 1) near)
+      (length diagram₀) last₀ child₀ diagram index last child at edges value
+
 abbrev walk-Inv-loop : walk-lts.InvT-loop
 walk-Inv-loop table sets field possible diagram₀ end index₀ seen₀ last₀ child₀ most near₀ at₀ edges₀ value₀ diagram index seen last child near at edges value =
-    (field < fields) × (most ≡ maximum table field) × (most ≤ 255)
-    × Before table (λ es. Held table es diagram₀ index₀ seen₀ end) (length diagram₀) field possible last₀ child₀ diagram index seen last child near at edges value
+    Turn table field possible diagram₀ end index₀ seen₀ last₀ child₀ most diagram index seen last child near at edges value
 
 abbrev walk-μ-loop : walk-lts.MeasureT-loop
 walk-μ-loop table sets field possible diagram₀ end index₀ seen₀ last₀ child₀ most near₀ at₀ edges₀ value₀ diagram index seen last child near at edges value =
     most + 1 - value
 
-walk-enter-ruling-requires : (t : ℕ) → walk-lts.Need-enter-ruling-requires (walk-claims t) (walk-at t) walk.Post walk-Inv-loop walk-μ-loop
-walk-enter-ruling-requires t c κs = ((c .before .before .before .before .before .pre .1 .0 .0, c .before .before .before .before .before .pre .1 .0 .2), c .before .before .before .before .before .pre .1 .1 .0 .0)
+-- The answers go by how many fields are left.
+module _ (t : ℕ) where
+  -- Places in the code of `walk`: its start, before a value, once the end of the value's run is known, once all under it is walked.
 
-walk-same-length : (t : ℕ) → walk-lts.Need-same-length (walk-claims t) (walk-at t) walk.Post walk-Inv-loop walk-μ-loop
-walk-same-length t c = c .before .before .enter-ruling .kept .1 .1 .0
+  abbrev Start : Type 0
+  Start = walk-lts.Start (walk-claims t) (walk-at t) walk.Post walk-Inv-loop walk-μ-loop
 
-walk-returns : (t : ℕ) → walk-lts.Need-returns (walk-claims t) (walk-at t) walk.Post walk-Inv-loop walk-μ-loop
-walk-returns t c =
-    let s = c .before .before .before .before .before .before .before .before .args in
-    let p = c .before .before .before .before .before .before .before .before .pre .1 .1 in
-    let x = c .before .before .enter-ruling in (
-      walked-last (s .table .now) (s .diagram .now) (s .index .now) (x .last .1 .1 .0) (x .last .1 .1 .1 .1 .0) (s .seen .now) (s .end) (s .field) (s .possible) (x .result .full) (x .result .end) (x .result .place) (omega arith) (x .ensures .0 .0) (x .ensures .0 .1) (x .ensures .1),
-      (kept-itself (s .field) (s .last .now) (p .1 .0), kept-itself (s .field) (s .child .now) (p .1 .1)),
-    )
+  abbrev Value : Type 0
+  Value = walk-lts.At-loop (walk-claims t) (walk-at t) walk.Post walk-Inv-loop walk-μ-loop
 
-walk-maximum-at-requires : (t : ℕ) → walk-lts.Need-maximum-at-requires (walk-claims t) (walk-at t) walk.Post walk-Inv-loop walk-μ-loop
-walk-maximum-at-requires t c κs = (header-there (c .before .before .before .args .table .now) (c .before .before .before .pre .1 .0 .0), omega arith)
+  abbrev Run : Type 0
+  Run = walk-lts.After-run-end (walk-claims t) (walk-at t) walk.Post walk-Inv-loop walk-μ-loop
 
-walk-cast-most : (t : ℕ) → walk-lts.Need-cast-most (walk-claims t) (walk-at t) walk.Post walk-Inv-loop walk-μ-loop
-walk-cast-most t c = search needs
+  abbrev Under : Type 0
+  Under = walk-lts.After-walk-once (walk-claims t) (walk-at t) walk.Post walk-Inv-loop walk-μ-loop
 
-walk-loop-holds : (t : ℕ) → walk-lts.Need-loop-holds (walk-claims t) (walk-at t) walk.Post walk-Inv-loop walk-μ-loop
-walk-loop-holds t c =
-    let s = c .before .before .before .before .args in
-    let p = c .before .before .before .before .pre .1 .1 in (
-      omega arith,
-      c .maximum-at .ensures,
-      omega arith,
-      before-first (s .table .now) (s .diagram .now) (s .index .now) (s .seen .now) (s .end) (s .field) (s .possible) (s .last .now) (s .child .now) (record { nodes = s .possible; place = 0 }) (p .0 .0) (p .1 .0) (p .1 .1) refl,
-    )
+  -- before a value
+  module _ (c : Value) where
+    abbrev start : Start
+    start = c .before .before .before .before .before
 
-walk-mul-set-at : (t : ℕ) → walk-lts.Need-mul-set-at (walk-claims t) (walk-at t) walk.Post walk-Inv-loop walk-μ-loop
-walk-mul-set-at t c = search needs
+    -- the level, once it is walked, is the walk from the field on
+    whole :
+        let s = start .args in
+        (es : Entries) → walkLevel (levelBy (s .table .now) (s .field) (has (s .possible))) es ≡ walkBy (s .table .now) (s .field) (has (s .possible)) es
+    whole es = let s = start .args in walk-field (s .table .now) (has (s .possible)) (s .field) es (c .loop .inv .inside)
 
-walk-index-1-set-at : (t : ℕ) → walk-lts.Need-index-1-set-at (walk-claims t) (walk-at t) walk.Post walk-Inv-loop walk-μ-loop
-walk-index-1-set-at t c = search needs
+  -- where the value is to be walked
+  module _ (c : Run) where
+    abbrev before : Value
+    before = c .before .before .before .before .before .before
 
-walk-set-at-requires : (t : ℕ) → walk-lts.Need-set-at-requires (walk-claims t) (walk-at t) walk.Post walk-Inv-loop walk-μ-loop
-walk-set-at-requires t c κs = omega (arith, c .before .before .loop .inv .2, c .before .loop-test .taken)
+    run :
+        let s = start before .args in
+        ValueRun (s .table .now) (s .possible) (s .field) (before .loop .value) (c .run-end .result) (c .before .before .meet .result)
+    run =
+        let g = start before in
+        let own = c .before .before .before .set-at in
+        value-run (g .args .sets .now) (g .args .field) (own .result) (g .pre .1 .0 .1) (before .loop .inv .inside)
+        (omega (arith, before .loop .inv .most-is, c .before .before .before .before .before .loop-test .taken)) (own .ensures) (c .before .before .meet .ensures)
+        (c .run-end .ensures .0) (c .run-end .ensures .1)
 
-walk-meet-requires : (t : ℕ) → walk-lts.Need-meet-requires (walk-claims t) (walk-at t) walk.Post walk-Inv-loop walk-μ-loop
-walk-meet-requires t c κs = search needs
+  -- once all under it is walked
+  abbrev ran : Under → Run
+  ran c = c .before .before .before .before .before .before
 
-walk-mul-run-end : (t : ℕ) → walk-lts.Need-mul-run-end (walk-claims t) (walk-at t) walk.Post walk-Inv-loop walk-μ-loop
-walk-mul-run-end t c = search needs
+  walk-enter-ruling-requires : walk-lts.Need-enter-ruling-requires (walk-claims t) (walk-at t) walk.Post walk-Inv-loop walk-μ-loop
+  walk-enter-ruling-requires c κs = let p = c .before .before .before .before .before .pre .1 in ((p .0 .0, p .0 .2), p .1 .0 .0)
 
-walk-index-1-run-end : (t : ℕ) → walk-lts.Need-index-1-run-end (walk-claims t) (walk-at t) walk.Post walk-Inv-loop walk-μ-loop
-walk-index-1-run-end t c = search needs
+  walk-returns : walk-lts.Need-returns (walk-claims t) (walk-at t) walk.Post walk-Inv-loop walk-μ-loop
+  walk-returns c =
+      let x = c .before .before .enter-ruling in
+      let g = c .before .before .before .before .before .before .before .before in
+      let s = g .args in (
+        walks-as
+            (walks-terminal (rulingFrom (s .table .now) (s .field) (has (s .possible))) (remembers-on (s .table .now) (s .seen .now)) (x .ensures .0) (x .ensures .1))
+            (λ es. walk-last (s .table .now) (has (s .possible)) (s .field) es (omega arith)),
+        kept-both (s .field) (g .pre .1 .1 .1),
+      )
 
-walk-run-end-requires : (t : ℕ) → walk-lts.Need-run-end-requires (walk-claims t) (walk-at t) walk.Post walk-Inv-loop walk-μ-loop
-walk-run-end-requires t c κs = omega (arith, c .before .before .before .before .before .loop .inv .2, c .before .before .before .before .loop-test .taken)
+  walk-maximum-at-requires : walk-lts.Need-maximum-at-requires (walk-claims t) (walk-at t) walk.Post walk-Inv-loop walk-μ-loop
+  walk-maximum-at-requires c κs = let g = c .before .before .before in (header-there (g .args .table .now) (g .pre .1 .0 .0), omega arith)
 
-walk-add-walk-once : (t : ℕ) → walk-lts.Need-add-walk-once (walk-claims t) (walk-at t) walk.Post walk-Inv-loop walk-μ-loop
-walk-add-walk-once t c = search needs
+  walk-loop-holds : walk-lts.Need-loop-holds (walk-claims t) (walk-at t) walk.Post walk-Inv-loop walk-μ-loop
+  walk-loop-holds c =
+      let g = c .before .before .before .before in
+      let p = g .pre .1 .1 in
+      record {
+        inside = omega arith;
+        most-is = c .maximum-at .ensures;
+        most-small = omega arith;
+        near-small = omega arith;
+        before =
+            before-first (level-deep (g .args .table .now) (g .args .field) (omega arith)) (p .0 .0) (p .1 .0) (p .1 .1) (λ es h. (h .0, (h .1, λ some. absurd (some refl))));
+      }
 
-walk-walk-once-requires : (t : ℕ) → walk-lts.Need-walk-once-requires (walk-claims t) (walk-at t) walk.Post walk-Inv-loop walk-μ-loop
-walk-walk-once-requires t c κs =
-    let s = c .before .before .before .before .before .before .before .before .before .before .before .before .before .before .before .before .args in
-    let l = c .before .before .before .before .before .before .before .before .before .before .before .loop in
-    let b = l .inv .3 in
-    let more : l .value ≤ maximum (s .table .now) (s .field) = omega (arith, l .inv .1, c .before .before .before .before .before .before .before .before .before .before .loop-test .taken) in (
-      omega (arith, c .before .before .before .before .before .before .before .before .before .before .before .before .before .before .before .before .pre .0, l .inv .0),
-      (
+  walk-walk-once-requires : walk-lts.Need-walk-once-requires (walk-claims t) (walk-at t) walk.Post walk-Inv-loop walk-μ-loop
+  walk-walk-once-requires c κs =
+      let r = c .before .before .before .before .before in
+      let l = before r .loop in
+      let b = l .inv .before in
+      let p = start (before r) .pre in (
+        omega (arith, p .0, l .inv .inside),
         (
-          c .before .before .before .before .before .before .before .before .before .before .before .before .before .before .before .before .pre .1 .0 .0,
-          c .before .before .before .before .before .before .before .before .before .before .before .before .before .before .before .before .pre .1 .0 .1,
-          left-closed (s .table .now) (s .sets .now) (c .before .before .before .before .before .before .before .before .before .before .before .before .before .before .before .before .pre .1 .0 .1) (s .field) (l .value) (l .inv .0) more (s .possible) (c .before .before .before .before .before .before .before .before .set-at .result) (c .before .before .before .before .before .before .before .meet .result) (c .before .before .before .before .before .before .before .before .set-at .ensures) (c .before .before .before .before .before .before .before .meet .ensures) (c .before .before .before .before .before .before .before .before .before .before .before .before .before .before .before .before .pre .1 .0 .0) (c .before .before .before .before .before .before .before .before .before .before .before .before .before .before .before .before .pre .1 .0 .2),
+          (p .1 .0 .0, p .1 .0 .1, left-closed (run r) (p .1 .0 .0) (p .1 .0 .2)),
+          ((b .room, omega (arith, l .inv .inside), l .inv .near-small), (b .last-kept .rows, b .child-kept .rows)),
         ),
-        (
-          (b .room, omega (arith, l .inv .0), b .near-small),
-          (b .last-kept .rows, b .child-kept .rows),
-        ),
-      ),
-    )
+      )
 
-walk-same-length-2 : (t : ℕ) → walk-lts.Need-same-length-2 (walk-claims t) (walk-at t) walk.Post walk-Inv-loop walk-μ-loop
-walk-same-length-2 t c = c .before .before .before .walk-once .kept .1 .1 .1 .1 .1 .0 ∙ c .before .before .before .before .before .before .before .before .before .before .before .before .before .before .before .loop .inv .3 .same-length
+  walk-same-length-2 : walk-lts.Need-same-length-2 (walk-claims t) (walk-at t) walk.Post walk-Inv-loop walk-μ-loop
+  walk-same-length-2 c = let u = c .before .before .before in u .walk-once .kept .1 .1 .1 .1 .1 .0 ∙ before (ran u) .loop .inv .before .same-length
 
-walk-returns-2 : (t : ℕ) → walk-lts.Need-returns-2 (walk-claims t) (walk-at t) walk.Post walk-Inv-loop walk-μ-loop
-walk-returns-2 t c =
-    let s = c .before .before .before .before .before .before .before .before .before .before .before .before .before .before .before .before .before .before .before .before .args in
-    let l = c .before .before .before .before .before .before .before .before .before .before .before .before .before .before .before .loop in
-    let x = c .before .before .before .walk-once in
-    let more : l .value ≤ maximum (s .table .now) (s .field) = omega (arith, l .inv .1, c .before .before .before .before .before .before .before .before .before .before .before .before .before .before .loop-test .taken) in (
-      value-full (s .table .now) (λ es. Held (s .table .now) es (s .diagram .now) (s .index .now) (s .seen .now) (s .end)) (length (s .diagram .now)) (s .field) (s .possible) (s .last .now) (s .child .now) (l .diagram) (l .index) (l .seen) (l .last) (l .child) (l .near) (l .at) (l .edges) (l .value) (l .inv .3) (header-there (s .table .now) (c .before .before .before .before .before .before .before .before .before .before .before .before .before .before .before .before .before .before .before .before .pre .1 .0 .0)) (l .inv .0)
-          more (c .before .before .before .before .before .before .before .before .before .before .before .meet .result) (left-at (s .table .now) (s .sets .now) (c .before .before .before .before .before .before .before .before .before .before .before .before .before .before .before .before .before .before .before .before .pre .1 .0 .1) (s .field) (l .value) (l .inv .0) more (s .possible) (c .before .before .before .before .before .before .before .before .before .before .before .before .set-at .result) (c .before .before .before .before .before .before .before .before .before .before .before .meet .result) (c .before .before .before .before .before .before .before .before .before .before .before .before .set-at .ensures) (c .before .before .before .before .before .before .before .before .before .before .before .meet .ensures)) (x .last .1 .1 .1 .1 .1 .0) (x .last .1 .1 .1 .1 .1 .1 .1 .0) (x .last .1 .1 .1 .1 .1 .1 .1 .1 .0) (x .result .full) (x .result .end) (x .result .place) (x .ensures .0) (c .if2 .taken),
-      (
-        kept-on (s .field) (s .last .now) (l .last) (x .last .1 .1 .1 .1 .1 .1 .1 .1 .1 .0) (l .inv .3 .last-kept) (x .ensures .1 .0),
-        kept-on (s .field) (s .child .now) (l .child) (x .last .1 .1 .1 .1 .1 .1 .1 .1 .1 .1 .0) (l .inv .3 .child-kept) (x .ensures .1 .1),
-      ),
-    )
+  walk-returns-2 : walk-lts.Need-returns-2 (walk-claims t) (walk-at t) walk.Post walk-Inv-loop walk-μ-loop
+  walk-returns-2 c =
+      let u = c .before .before .before in
+      let r = ran u in
+      let f = start (before r) .args .field in
+      let b = before r .loop .inv .before in
+      let x = u .walk-once in (
+        walks-as (value-full b (walks-value (run r) (x .ensures .0)) (run r .more) (c .if2 .taken)) (whole (before r)),
+        (kept-on f (b .last-kept) (x .ensures .1 .0), kept-on f (b .child-kept) (x .ensures .1 .1)),
+      )
 
-walk-mul-extend : (t : ℕ) → walk-lts.Need-mul-extend (walk-claims t) (walk-at t) walk.Post walk-Inv-loop walk-μ-loop
-walk-mul-extend t c = search needs
+  walk-cast-extend : walk-lts.Need-cast-extend (walk-claims t) (walk-at t) walk.Post walk-Inv-loop walk-μ-loop
+  walk-cast-extend c = let r = ran (c .before .before .before .before .before) in omega (arith, before r .loop .inv, run-within (run r))
 
-walk-index-1-extend : (t : ℕ) → walk-lts.Need-index-1-extend (walk-claims t) (walk-at t) walk.Post walk-Inv-loop walk-μ-loop
-walk-index-1-extend t c = search needs
+  walk-extend-requires : walk-lts.Need-extend-requires (walk-claims t) (walk-at t) walk.Post walk-Inv-loop walk-μ-loop
+  walk-extend-requires c κs =
+      let u = c .before .before .before .before .before in
+      let r = ran u in
+      let k = u .walk-once .ensures .1 in
+      let l = before r .loop in
+      let f = start (before r) .args .field in
+      let few : l .edges < 256 = omega (arith, l .inv .before .few, run r .more, l .inv .most-is, l .inv .most-small) in
+      (omega (arith, k .0 .rows .long f (l .inv .inside)), omega (arith, k .1 .rows .long f (l .inv .inside)), few)
 
-walk-mul-extend-2 : (t : ℕ) → walk-lts.Need-mul-extend-2 (walk-claims t) (walk-at t) walk.Post walk-Inv-loop walk-μ-loop
-walk-mul-extend-2 t c = search needs
+  walk-add-value : walk-lts.Need-add-value (walk-claims t) (walk-at t) walk.Post walk-Inv-loop walk-μ-loop
+  walk-add-value c = let r = ran (c .before .before .before .before .before .before) in omega (arith, before r .loop .inv, run-within (run r))
 
-walk-index-1-extend-2 : (t : ℕ) → walk-lts.Need-index-1-extend-2 (walk-claims t) (walk-at t) walk.Post walk-Inv-loop walk-μ-loop
-walk-index-1-extend-2 t c = search needs
+  walk-loop-less : walk-lts.Need-loop-less (walk-claims t) (walk-at t) walk.Post walk-Inv-loop walk-μ-loop
+  walk-loop-less c = let r = ran (c .before .before .before .before .before .before) in omega (arith, before r .loop .inv, run r .far, run-within (run r))
 
-walk-cast-extend : (t : ℕ) → walk-lts.Need-cast-extend (walk-claims t) (walk-at t) walk.Post walk-Inv-loop walk-μ-loop
-walk-cast-extend t c =
-    let s = c .before .before .before .before .before .before .before .before .before .before .before .before .before .before .before .before .before .before .before .before .before .before .args in
-    let l = c .before .before .before .before .before .before .before .before .before .before .before .before .before .before .before .before .before .loop in
-    let more : l .value ≤ maximum (s .table .now) (s .field) = omega (arith, l .inv .1, c .before .before .before .before .before .before .before .before .before .before .before .before .before .before .before .before .loop-test .taken) in
-    omega (arith, l .inv .1, l .inv .2, c .before .before .before .before .before .before .before .before .before .before .before .run-end .ensures .1, run-alike (s .table .now) (s .sets .now) (c .before .before .before .before .before .before .before .before .before .before .before .before .before .before .before .before .before .before .before .before .before .before .pre .1 .0 .1) (s .field) (l .value) (c .before .before .before .before .before .before .before .before .before .before .before .run-end .result) (l .inv .0) more (c .before .before .before .before .before .before .before .before .before .before .before .run-end .ensures .0) (c .before .before .before .before .before .before .before .before .before .before .before .run-end .result) (c .before .before .before .before .before .before .before .before .before .before .before .run-end .ensures .1) (omega arith) .0)
+  walk-loop-again : walk-lts.Need-loop-again (walk-claims t) (walk-at t) walk.Post walk-Inv-loop walk-μ-loop
+  walk-loop-again c =
+      let u = c .before .before .before .before .before .before in
+      let r = ran u in
+      let l = before r .loop in
+      let x = u .walk-once in
+      let y = c .extend in
+      record {
+        inside = l .inv .inside;
+        most-is = l .inv .most-is;
+        most-small = l .inv .most-small;
+        near-small = x .ensures .0 .place-small;
+        before =
+            value-next (l .inv .before) (walks-value (run r) (x .ensures .0)) (run r .more) (r .run-end .result) (run r .far) (run-alike (run r))
+            (c .before .before .before .if2 .left) (x .kept .1 .1 .1 .1 .1 .0) (x .ensures .1 .0) (x .ensures .1 .1) (y .last .0) (y .last .1 .0) (y .kept .0)
+            (y .kept .1 .0) (y .ensures .0) (y .ensures .1 .0) (λ xs at s. (s, value-near (run r) (x .result .place) xs at));
+      }
 
-walk-cast-extend-2 : (t : ℕ) → walk-lts.Need-cast-extend-2 (walk-claims t) (walk-at t) walk.Post walk-Inv-loop walk-μ-loop
-walk-cast-extend-2 t c = search needs
+  walk-enter-node-requires : walk-lts.Need-enter-node-requires (walk-claims t) (walk-at t) walk.Post walk-Inv-loop walk-μ-loop
+  walk-enter-node-requires c κs =
+      let l = c .before .before .before .before .before .loop in
+      let b = l .inv .before in
+      (b .room, (omega arith, omega (arith, b .few, b .reached, l .inv .most-is, l .inv .most-small)))
 
-walk-extend-requires : (t : ℕ) → walk-lts.Need-extend-requires (walk-claims t) (walk-at t) walk.Post walk-Inv-loop walk-μ-loop
-walk-extend-requires t c κs =
-    let l = c .before .before .before .before .before .before .before .before .before .before .before .before .before .before .before .before .before .loop in
-    let x = c .before .before .before .before .before .walk-once in
-    let few : l .edges < 256 = omega (arith, l .inv .3 .few, c .before .before .before .before .before .before .before .before .before .before .before .before .before .before .before .before .loop-test .taken, l .inv .2) in (
-      omega (arith, x .ensures .1 .0 .rows .long (c .before .before .before .before .before .before .before .before .before .before .before .before .before .before .before .before .before .before .before .before .before .before .args .field) (l .inv .0)),
-      omega (arith, x .ensures .1 .1 .rows .long (c .before .before .before .before .before .before .before .before .before .before .before .before .before .before .before .before .before .before .before .before .before .before .args .field) (l .inv .0)),
-      few,
-    )
+  walk-same-length-3 : walk-lts.Need-same-length-3 (walk-claims t) (walk-at t) walk.Post walk-Inv-loop walk-μ-loop
+  walk-same-length-3 c = c .before .before .enter-node .kept .0 ∙ c .before .before .before .before .before .before .before .before .loop .inv .before .same-length
 
-walk-add-value : (t : ℕ) → walk-lts.Need-add-value (walk-claims t) (walk-at t) walk.Post walk-Inv-loop walk-μ-loop
-walk-add-value t c =
-    let s = c .before .before .before .before .before .before .before .before .before .before .before .before .before .before .before .before .before .before .before .before .before .before .before .args in
-    let l = c .before .before .before .before .before .before .before .before .before .before .before .before .before .before .before .before .before .before .loop in
-    let more : l .value ≤ maximum (s .table .now) (s .field) = omega (arith, l .inv .1, c .before .before .before .before .before .before .before .before .before .before .before .before .before .before .before .before .before .loop-test .taken) in
-    omega (arith, l .inv .1, l .inv .2, c .before .before .before .before .before .before .before .before .before .before .before .before .run-end .ensures .1, run-alike (s .table .now) (s .sets .now) (c .before .before .before .before .before .before .before .before .before .before .before .before .before .before .before .before .before .before .before .before .before .before .before .pre .1 .0 .1) (s .field) (l .value) (c .before .before .before .before .before .before .before .before .before .before .before .before .run-end .result) (l .inv .0) more (c .before .before .before .before .before .before .before .before .before .before .before .before .run-end .ensures .0) (c .before .before .before .before .before .before .before .before .before .before .before .before .run-end .result) (c .before .before .before .before .before .before .before .before .before .before .before .before .run-end .ensures .1) (omega arith) .0)
+  walk-returns-3 : walk-lts.Need-returns-3 (walk-claims t) (walk-at t) walk.Post walk-Inv-loop walk-μ-loop
+  walk-returns-3 c =
+      let x = c .before .before .enter-node in
+      let e = c .before .before .before .before .before .before .before in
+      let l = e .before .loop in
+      let b = l .inv .before in
+      let g = start (e .before) in
+      let done : l .value ≡ suc (maximum (g .args .table .now) (g .args .field)) = omega (arith, b .reached, l .inv .most-is, e .loop-test .left) in (
+        walks-as (values-done b done (λ es r. r .0) (remembers-on (g .args .table .now) (l .seen)) (x .ensures .0) (x .ensures .1)) (whole (e .before)),
+        (b .last-kept, b .child-kept),
+      )
 
-walk-loop-less : (t : ℕ) → walk-lts.Need-loop-less (walk-claims t) (walk-at t) walk.Post walk-Inv-loop walk-μ-loop
-walk-loop-less t c =
-    let s = c .before .before .before .before .before .before .before .before .before .before .before .before .before .before .before .before .before .before .before .before .before .before .before .args in
-    let l = c .before .before .before .before .before .before .before .before .before .before .before .before .before .before .before .before .before .before .loop in
-    let more : l .value ≤ maximum (s .table .now) (s .field) = omega (arith, l .inv .1, c .before .before .before .before .before .before .before .before .before .before .before .before .before .before .before .before .before .loop-test .taken) in
-    omega (arith, l .inv .1, l .inv .2, c .before .before .before .before .before .before .before .before .before .before .before .before .run-end .ensures .1, run-alike (s .table .now) (s .sets .now) (c .before .before .before .before .before .before .before .before .before .before .before .before .before .before .before .before .before .before .before .before .before .before .before .pre .1 .0 .1) (s .field) (l .value) (c .before .before .before .before .before .before .before .before .before .before .before .before .run-end .result) (l .inv .0) more (c .before .before .before .before .before .before .before .before .before .before .before .before .run-end .ensures .0) (c .before .before .before .before .before .before .before .before .before .before .before .before .run-end .result) (c .before .before .before .before .before .before .before .before .before .before .before .before .run-end .ensures .1) (omega arith) .0)
+  -- Places in the code of `walk_once`: its start, once a slot was looked at, once the fields are walked.
 
-walk-loop-again : (t : ℕ) → walk-lts.Need-loop-again (walk-claims t) (walk-at t) walk.Post walk-Inv-loop walk-μ-loop
-walk-loop-again t c =
-    let s = c .before .before .before .before .before .before .before .before .before .before .before .before .before .before .before .before .before .before .before .before .before .before .before .args in
-    let l = c .before .before .before .before .before .before .before .before .before .before .before .before .before .before .before .before .before .before .loop in
-    let x = c .before .before .before .before .before .before .walk-once in
-    let y = c .extend in
-    let more : l .value ≤ maximum (s .table .now) (s .field) = omega (arith, l .inv .1, c .before .before .before .before .before .before .before .before .before .before .before .before .before .before .before .before .before .loop-test .taken) in (
-      l .inv .0,
-      l .inv .1,
-      l .inv .2,
-      value-next (s .table .now) (λ es. Held (s .table .now) es (s .diagram .now) (s .index .now) (s .seen .now) (s .end)) (length (s .diagram .now)) (s .field) (s .possible) (s .last .now) (s .child .now) (l .diagram) (l .index) (l .seen) (l .last) (l .child) (l .near) (l .at) (l .edges) (l .value) (l .inv .3) (header-there (s .table .now) (c .before .before .before .before .before .before .before .before .before .before .before .before .before .before .before .before .before .before .before .before .before .before .before .pre .1 .0 .0)) (l .inv .0)
-          more (c .before .before .before .before .before .before .before .before .before .before .before .before .before .before .meet .result) (left-at (s .table .now) (s .sets .now) (c .before .before .before .before .before .before .before .before .before .before .before .before .before .before .before .before .before .before .before .before .before .before .before .pre .1 .0 .1) (s .field) (l .value) (l .inv .0) more (s .possible) (c .before .before .before .before .before .before .before .before .before .before .before .before .before .before .before .set-at .result) (c .before .before .before .before .before .before .before .before .before .before .before .before .before .before .meet .result) (c .before .before .before .before .before .before .before .before .before .before .before .before .before .before .before .set-at .ensures) (c .before .before .before .before .before .before .before .before .before .before .before .before .before .before .meet .ensures)) (x .last .1 .1 .1 .1 .1 .0) (x .last .1 .1 .1 .1 .1 .1 .1 .0) (x .last .1 .1 .1 .1 .1 .1 .1 .1 .0) (x .result .full) (x .result .end) (x .result .place) (x .ensures .0)
-          (c .before .before .before .before .before .before .before .before .before .before .before .before .run-end .result) (c .before .before .before .before .before .before .before .before .before .before .before .before .run-end .ensures .1) (run-alike (s .table .now) (s .sets .now) (c .before .before .before .before .before .before .before .before .before .before .before .before .before .before .before .before .before .before .before .before .before .before .before .pre .1 .0 .1) (s .field) (l .value) (c .before .before .before .before .before .before .before .before .before .before .before .before .run-end .result) (l .inv .0) more (c .before .before .before .before .before .before .before .before .before .before .before .before .run-end .ensures .0)) (c .before .before .before .if2 .left) (x .kept .1 .1 .1 .1 .1 .0) (x .last .1 .1 .1 .1 .1 .1 .1 .1 .1 .0) (x .last .1 .1 .1 .1 .1 .1 .1 .1 .1 .1 .0) (x .ensures .1 .0) (x .ensures .1 .1)
-          (y .last .0) (y .last .1 .0) (y .result) (y .kept .0) (y .kept .1 .0) (y .ensures .0) (y .ensures .1) (record { nodes = c .before .before .before .before .before .before .before .before .before .before .before .before .before .before .meet .result; place = x .result .place }) refl refl,
-    )
+  abbrev OnceStart : Type 0
+  OnceStart = walk-once-lts.Start (walk-once-claims t) (walk-once-at t) walk-once.Post
 
-walk-cast-enter-node : (t : ℕ) → walk-lts.Need-cast-enter-node (walk-claims t) (walk-at t) walk.Post walk-Inv-loop walk-μ-loop
-walk-cast-enter-node t c = search needs
+  abbrev Recalled : Type 0
+  Recalled = walk-once-lts.After-recall (walk-once-claims t) (walk-once-at t) walk-once.Post
 
-walk-add-enter-node : (t : ℕ) → walk-lts.Need-add-enter-node (walk-claims t) (walk-at t) walk.Post walk-Inv-loop walk-μ-loop
-walk-add-enter-node t c = search needs
+  abbrev Done : Type 0
+  Done = walk-once-lts.After-walk (walk-once-claims t) (walk-once-at t) walk-once.Post
 
-walk-mul-enter-node : (t : ℕ) → walk-lts.Need-mul-enter-node (walk-claims t) (walk-at t) walk.Post walk-Inv-loop walk-μ-loop
-walk-mul-enter-node t c = search needs
+  -- once a slot was looked at
+  module _ (c : Recalled) where
+    abbrev begun : OnceStart
+    begun = c .before .before .before .before .before .before .before
 
-walk-index-1-enter-node : (t : ℕ) → walk-lts.Need-index-1-enter-node (walk-claims t) (walk-at t) walk.Post walk-Inv-loop walk-μ-loop
-walk-index-1-enter-node t c = search needs
+    abbrev slot : ℕ
+    slot = c .before .before .slot-of .result
 
-walk-mul-enter-node-2 : (t : ℕ) → walk-lts.Need-mul-enter-node-2 (walk-claims t) (walk-at t) walk.Post walk-Inv-loop walk-μ-loop
-walk-mul-enter-node-2 t c = search needs
+  -- once the fields are walked
+  module _ (c : Done) where
+    abbrev recalled : Recalled
+    recalled = c .before .before .before .before .before .before .before
 
-walk-index-1-enter-node-2 : (t : ℕ) → walk-lts.Need-index-1-enter-node-2 (walk-claims t) (walk-at t) walk.Post walk-Inv-loop walk-μ-loop
-walk-index-1-enter-node-2 t c = search needs
+    abbrev seenWalked : List (List ℕ)
+    seenWalked = c .walk .last .1 .1 .1 .1 .1 .1 .1 .0
 
-walk-enter-node-requires : (t : ℕ) → walk-lts.Need-enter-node-requires (walk-claims t) (walk-at t) walk.Post walk-Inv-loop walk-μ-loop
-walk-enter-node-requires t c κs =
-    let l = c .before .before .before .before .before .loop in
-    let b = l .inv .3 in
-    (b .room, (omega arith, omega (arith, b .few, b .reached, l .inv .1, l .inv .2)))
+  walk-once-returns : walk-once-lts.Need-returns (walk-once-claims t) (walk-once-at t) walk-once.Post
+  walk-once-returns c =
+      let g = c .before .before .before .before in
+      let s = g .args in
+      let p = g .pre .1 .1 .0 in (
+        known-near (s .table .now) (s .field) (s .possible) (s .near) (s .seen .now) (p .0) (p .2) (c .before .is-known .ensures (c .if1 .taken)),
+        kept-both (s .field) (g .pre .1 .1 .1),
+      )
 
-walk-same-length-3 : (t : ℕ) → walk-lts.Need-same-length-3 (walk-claims t) (walk-at t) walk.Post walk-Inv-loop walk-μ-loop
-walk-same-length-3 t c = c .before .before .enter-node .kept .0 ∙ c .before .before .before .before .before .before .before .before .loop .inv .3 .same-length
+  walk-once-returns-2 : walk-once-lts.Need-returns-2 (walk-once-claims t) (walk-once-at t) walk-once.Post
+  walk-once-returns-2 c =
+      let r = c .before in
+      let g = begun r in
+      let s = g .args in (
+        known-seen (s .table .now) (s .field) (s .possible) (s .near) (s .seen .now) (slot r) (g .pre .1 .1 .0 .0) (r .recall .ensures .0) (c .if2 .taken)
+            (r .recall .ensures .1),
+        kept-both (s .field) (g .pre .1 .1 .1),
+      )
 
-walk-returns-3 : (t : ℕ) → walk-lts.Need-returns-3 (walk-claims t) (walk-at t) walk.Post walk-Inv-loop walk-μ-loop
-walk-returns-3 t c =
-    let s = c .before .before .before .before .before .before .before .before .before .before .before .before .before .args in
-    let l = c .before .before .before .before .before .before .before .before .loop in
-    let x = c .before .before .enter-node in (
-      values-done (s .table .now) (λ es. Held (s .table .now) es (s .diagram .now) (s .index .now) (s .seen .now) (s .end)) (length (s .diagram .now)) (s .field) (s .possible) (s .last .now) (s .child .now) (l .diagram) (l .index) (l .seen) (l .last) (l .child) (l .near) (l .at) (l .edges) (l .value) (l .inv .3) (header-there (s .table .now) (c .before .before .before .before .before .before .before .before .before .before .before .before .before .pre .1 .0 .0)) (l .inv .0)
-          (omega (arith, l .inv .3 .reached, l .inv .1, c .before .before .before .before .before .before .before .loop-test .left)) (x .last .0) (x .last .1 .1 .0) (x .result .full) (x .result .end) (x .result .place) (x .ensures .0 .0) (x .ensures .0 .1) (x .ensures .1),
-      (l .inv .3 .last-kept, l .inv .3 .child-kept),
-    )
+  walk-once-walk-requires : walk-once-lts.Need-walk-requires (walk-once-claims t) (walk-once-at t) walk-once.Post
+  walk-once-walk-requires c κs = let p = begun (c .before .before .before .before .before .before) .pre in (omega (arith, p .0), (p .1 .0, ((p .1 .1 .0 .0, p .1 .1 .0 .1), p .1 .1 .1)))
 
-walk-once-is-known-requires : (t : ℕ) → walk-once-lts.Need-is-known-requires (walk-once-claims t) (walk-once-at t) walk-once.Post
-walk-once-is-known-requires t c κs = search needs
+  walk-once-returns-3 : walk-once-lts.Need-returns-3 (walk-once-claims t) (walk-once-at t) walk-once.Post
+  walk-once-returns-3 c =
+      let w = c .before .before .before in
+      let s = begun (recalled w) .args in
+      (walked-anew (s .table .now) (s .field) (s .possible) (s .near) (s .seen .now) (seenWalked w) (w .walk .ensures .0), w .walk .ensures .1)
 
-walk-once-returns : (t : ℕ) → walk-once-lts.Need-returns (walk-once-claims t) (walk-once-at t) walk-once.Post
-walk-once-returns t c =
-    let s = c .before .before .before .before .args in
-    let p = c .before .before .before .before .pre .1 .1 in (
-      known-near (s .table .now) (s .field) (s .possible) (s .near) (length (s .diagram .now)) (s .diagram .now) (s .index .now) (s .seen .now) (s .end) (p .0 .0) (p .0 .2) (c .before .is-known .ensures (c .if1 .taken)),
-      (kept-itself (s .field) (s .last .now) (p .1 .0), kept-itself (s .field) (s .child .now) (p .1 .1)),
-    )
-
-walk-once-slot-of-requires : (t : ℕ) → walk-once-lts.Need-slot-of-requires (walk-once-claims t) (walk-once-at t) walk-once.Post
-walk-once-slot-of-requires t c κs = c .before .before .before .before .pre .1 .1 .0 .1
-
-walk-once-recall-requires : (t : ℕ) → walk-once-lts.Need-recall-requires (walk-once-claims t) (walk-once-at t) walk-once.Post
-walk-once-recall-requires t c κs = c .before .slot-of .ensures
-
-walk-once-returns-2 : (t : ℕ) → walk-once-lts.Need-returns-2 (walk-once-claims t) (walk-once-at t) walk-once.Post
-walk-once-returns-2 t c =
-    let s = c .before .before .before .before .before .before .before .before .args in
-    let p = c .before .before .before .before .before .before .before .before .pre .1 .1 in (
-      known-seen (s .table .now) (s .field) (s .possible) (s .near) (length (s .diagram .now)) (s .diagram .now) (s .index .now) (s .seen .now) (s .end) (c .before .before .before .slot-of .result) (c .before .recall .result) (p .0 .0) (c .before .recall .ensures .0) (c .if2 .taken) (c .before .recall .ensures .1),
-      (kept-itself (s .field) (s .last .now) (p .1 .0), kept-itself (s .field) (s .child .now) (p .1 .1)),
-    )
-
-walk-once-walk-requires : (t : ℕ) → walk-once-lts.Need-walk-requires (walk-once-claims t) (walk-once-at t) walk-once.Post
-walk-once-walk-requires t c κs =
-    let p = c .before .before .before .before .before .before .before .before .before .before .before .before .before .pre .1 .1 in
-    (omega (arith, c .before .before .before .before .before .before .before .before .before .before .before .before .before .pre .0), (c .before .before .before .before .before .before .before .before .before .before .before .before .before .pre .1 .0, ((p .0 .0, p .0 .1), p .1)))
-
-walk-once-same-length : (t : ℕ) → walk-once-lts.Need-same-length (walk-once-claims t) (walk-once-at t) walk-once.Post
-walk-once-same-length t c = c .before .before .before .walk .kept .1 .1 .1 .1 .0
-
-walk-once-returns-3 : (t : ℕ) → walk-once-lts.Need-returns-3 (walk-once-claims t) (walk-once-at t) walk-once.Post
-walk-once-returns-3 t c =
-    let s = c .before .before .before .before .before .before .before .before .before .before .before .before .before .before .before .before .before .args in
-    let x = c .before .before .before .walk in (
-      walked-full (s .table .now) (s .field) (s .possible) (s .near) (length (s .diagram .now)) (s .diagram .now) (s .index .now) (s .seen .now) (s .end) (x .last .1 .1 .1 .1 .0) (x .last .1 .1 .1 .1 .1 .1 .0) (x .last .1 .1 .1 .1 .1 .1 .1 .0) (x .result .full) (x .result .end) (x .result .place) (x .ensures .0),
-      x .ensures .1,
-    )
-
-walk-once-remember-requires : (t : ℕ) → walk-once-lts.Need-remember-requires (walk-once-claims t) (walk-once-at t) walk-once.Post
-walk-once-remember-requires t c κs = c .before .before .before .before .before .before .before .before .before .before .before .before .before .slot-of .ensures
-
-walk-once-same-length-2 : (t : ℕ) → walk-once-lts.Need-same-length-2 (walk-once-claims t) (walk-once-at t) walk-once.Post
-walk-once-same-length-2 t c = c .before .before .before .before .before .walk .kept .1 .1 .1 .1 .0
-
-walk-once-returns-4 : (t : ℕ) → walk-once-lts.Need-returns-4 (walk-once-claims t) (walk-once-at t) walk-once.Post
-walk-once-returns-4 t c =
-    let s = c .before .before .before .before .before .before .before .before .before .before .before .before .before .before .before .before .before .before .before .args in
-    let x = c .before .before .before .before .before .walk in (
-      walked-new (s .table .now) (s .field) (s .possible) (s .near) (length (s .diagram .now)) (s .diagram .now) (s .index .now) (s .seen .now) (s .end) (x .last .1 .1 .1 .1 .0) (x .last .1 .1 .1 .1 .1 .1 .0) (x .last .1 .1 .1 .1 .1 .1 .1 .0) (x .result .full) (x .result .end) (x .result .place) (x .ensures .0) (c .before .before .if3 .left) (c .before .before .before .before .before .before .before .before .before .before .before .before .before .before .slot-of .result) (c .remember .last .0) (c .remember .ensures),
-      x .ensures .1,
-    )
+  walk-once-returns-4 : walk-once-lts.Need-returns-4 (walk-once-claims t) (walk-once-at t) walk-once.Post
+  walk-once-returns-4 c =
+      let w = c .before .before .before .before .before in
+      let r = recalled w in
+      let s = begun r .args in (
+        walked-noted (s .table .now) (s .field) (s .possible) (s .near) (s .seen .now) (seenWalked w) (w .walk .ensures .0) (slot r) (c .remember .last .0)
+            (c .remember .ensures),
+        w .walk .ensures .1,
+      )
 
 pub +walk+walk-once-spec : {M : Type 1} → statement M
-+walk+walk-once-spec = close μ-walk μ-walk-once (λ t. walk-lts.spec (walk-claims t)
-    (walk-at t)
-    walk.Post
-    walk-Inv-loop
-    walk-μ-loop
-    (walk-enter-ruling-requires t)
-    (walk-same-length t)
-    (walk-returns t)
-    (walk-maximum-at-requires t)
-    (walk-cast-most t)
-    (walk-loop-holds t)
-    (walk-mul-set-at t)
-    (walk-index-1-set-at t)
-    (walk-set-at-requires t)
-    (walk-meet-requires t)
-    (walk-mul-run-end t)
-    (walk-index-1-run-end t)
-    (walk-run-end-requires t)
-    (walk-add-walk-once t)
-    (walk-walk-once-requires t)
-    (walk-same-length-2 t)
-    (walk-returns-2 t)
-    (walk-mul-extend t)
-    (walk-index-1-extend t)
-    (walk-mul-extend-2 t)
-    (walk-index-1-extend-2 t)
-    (walk-cast-extend t)
-    (walk-cast-extend-2 t)
-    (walk-extend-requires t)
-    (walk-add-value t)
-    (walk-loop-less t)
-    (walk-loop-again t)
-    (walk-cast-enter-node t)
-    (walk-add-enter-node t)
-    (walk-mul-enter-node t)
-    (walk-index-1-enter-node t)
-    (walk-mul-enter-node-2 t)
-    (walk-index-1-enter-node-2 t)
-    (walk-enter-node-requires t)
-    (walk-same-length-3 t)
-    (walk-returns-3 t))
-    λ t. walk-once-lts.spec (walk-once-claims t)
-    (walk-once-at t)
-    walk-once.Post
-    (walk-once-is-known-requires t)
-    (walk-once-returns t)
-    (walk-once-slot-of-requires t)
-    (walk-once-recall-requires t)
-    (walk-once-returns-2 t)
-    (walk-once-walk-requires t)
-    (walk-once-same-length t)
-    (walk-once-returns-3 t)
-    (walk-once-remember-requires t)
-    (walk-once-same-length-2 t)
-    (walk-once-returns-4 t)
++walk+walk-once-spec =
+    close μ-walk μ-walk-once
+    (λ t.
+    walk-lts.spec (walk-claims t) (walk-at t) walk.Post walk-Inv-loop walk-μ-loop
+    (walk-enter-ruling-requires t) (λ c. search needs) (walk-returns t) (walk-maximum-at-requires t) (λ c. search needs) (walk-loop-holds t)
+    (λ c. search needs) (λ c. search needs) (λ c κs. search needs) (λ c κs. search needs) (λ c. search needs) (λ c. search needs)
+    (λ c κs. search needs) (λ c. search needs) (walk-walk-once-requires t) (walk-same-length-2 t) (walk-returns-2 t) (λ c. search needs)
+    (λ c. search needs) (λ c. search needs) (λ c. search needs) (walk-cast-extend t) (λ c. search needs) (walk-extend-requires t) (walk-add-value t)
+    (walk-loop-less t) (walk-loop-again t) (λ c. search needs) (λ c. search needs) (λ c. search needs) (λ c. search needs) (λ c. search needs)
+    (λ c. search needs) (walk-enter-node-requires t) (walk-same-length-3 t) (walk-returns-3 t))
+    (λ t.
+    walk-once-lts.spec (walk-once-claims t) (walk-once-at t) walk-once.Post
+    (λ c κs. search needs) (walk-once-returns t) (λ c κs. search needs) (λ c κs. search needs) (walk-once-returns-2 t) (walk-once-walk-requires t)
+    (λ c. search needs) (walk-once-returns-3 t) (λ c κs. search needs) (λ c. search needs) (walk-once-returns-4 t))

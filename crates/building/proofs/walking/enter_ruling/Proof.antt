@@ -10,12 +10,6 @@ use Rattle.building.proofs.Written.{few-counted, stored-long, ruling-en
 use Rattle.building.proofs.walking.enter_ruling.Statement.{statement}
 use Rattle.building.proofs.walking.enter_ruling.Tie as tie
 
-slice-aggregate-rule-set : tie.Need-slice-aggregate-rule-set
-slice-aggregate-rule-set c = search needs
-
-rule-set-requires : tie.Need-rule-set-requires
-rule-set-requires c κs = search needs
-
 array-share-prefix-cards : tie.Need-array-share-prefix-cards
 array-share-prefix-cards c =
     let s = c .before .before .before .before .before .before .before .args in
@@ -36,9 +30,6 @@ enter-terminal-requires c κs =
     let few = few-counted (s .table .now) (has (s .applying)) (zeros 127) (x .last .1 .1 .0) (x .result .decision) (x .result .count) (c .before .before .before .before .before .before .before .before .pre .0 .0) refl (x .ensures .0 .0) (x .ensures .0 .1) (x .ensures .1) in
     ((c .before .before .before .before .before .before .before .before .pre .1), omega (arith, few, length-take-le (x .result .count) (x .last .1 .1 .0) long))
 
-same-length : tie.Need-same-length
-same-length c = search needs
-
 returns : tie.Need-returns
 returns c =
     let s = c .before .before .before .before .before .before .before .before .before .before .before .args in
@@ -53,10 +44,5 @@ pub enter-ruling-spec : {M : Type 1} → statement M
 enter-ruling-spec =
     tie.close
     (tie.spec
-    slice-aggregate-rule-set
-    rule-set-requires
-    array-share-prefix-cards
-    slice-aggregate-enter-terminal
-    enter-terminal-requires
-    same-length
-    returns)
+    (λ c. search needs) (λ c κs. search needs) array-share-prefix-cards slice-aggregate-enter-terminal enter-terminal-requires
+    (λ c. search needs) returns)

@@ -12,15 +12,6 @@ use Rattle.entering.proofs.LaidOut.{Sought, is-left, rest-fits, is-writ
 use Rattle.entering.proofs.entering.enter_node.Statement.{statement}
 use Rattle.entering.proofs.entering.enter_node.Tie as tie
 
-slice-aggregate-write-node : tie.Need-slice-aggregate-write-node
-slice-aggregate-write-node c = search needs
-
-write-node-requires : tie.Need-write-node-requires
-write-node-requires c κs = search needs
-
-array-share-prefix-entry : tie.Need-array-share-prefix-entry
-array-share-prefix-entry c = search needs
-
 slice-aggregate-settle : tie.Need-slice-aggregate-settle
 slice-aggregate-settle c =
     let s = c .before .before .before .before .before .before .before .args in
@@ -32,7 +23,7 @@ settle-requires c κs =
     let n = node-length (s .last .now) (s .child .now) (s .level) (s .edges) _ (c .before .before .before .before .write-node .ensures .1 .1) in
     (c .before .before .before .before .before .before .before .pre .0, (omega (arith, n), omega (arith, n, c .before .before .before .before .before .before .before .pre .1 .1)))
 
--- the entry was looked for
+-- what is known once the entry was looked for
 sought : (c : tie.After-settle) →
     let a = c .before .before .before .before .before .before .before .before .args in
     Sought (a .diagram .now) (a .index .now) (a .end) (node (a .level) (edgesIn (a .last .now) (a .child .now) (a .edges))) (c .settle .last .1 .1 .0) (c .settle .result .full) (c .settle .result .end) (c .settle .result .place)
@@ -47,23 +38,8 @@ sought c =
       settles = c .settle .ensures .1 .1;
     }
 
-same-length : tie.Need-same-length
-same-length c = search needs
-
 returns : tie.Need-returns
 returns c = is-left _ _ _ _ _ _ _ _ (sought (c .before .before)) (c .if1 .taken)
-
-mul-write-node : tie.Need-mul-write-node
-mul-write-node c = search needs
-
-sub-write-node : tie.Need-sub-write-node
-sub-write-node c = search needs
-
-part-write-node-start : tie.Need-part-write-node-start
-part-write-node-start c = search needs
-
-part-write-node-end : tie.Need-part-write-node-end
-part-write-node-end c = search needs
 
 write-node-requires-2 : tie.Need-write-node-requires-2
 write-node-requires-2 c κs = (c .before .before .before .before .before .before .before .before .before .before .before .pre .1 .1, omega (arith, rest-fits _ _ _ _ _ _ _ _ (sought (c .before .before .before)) (c .before .if1 .left), node-length (c .before .before .before .before .before .before .before .before .before .before .before .args .last .now) (c .before .before .before .before .before .before .before .before .before .before .before .args .child .now) (c .before .before .before .before .before .before .before .before .before .before .before .args .level) (c .before .before .before .before .before .before .before .before .before .before .before .args .edges) _ (c .before .before .before .before .before .before .before .before .write-node .ensures .1 .1), ap length (c .before .before .before .before .before .before .before .before .write-node .ensures .1 .1)))
@@ -78,17 +54,5 @@ pub enter-node-spec : {M : Type 1} → statement M
 enter-node-spec =
     tie.close
     (tie.spec
-    slice-aggregate-write-node
-    write-node-requires
-    array-share-prefix-entry
-    slice-aggregate-settle
-    settle-requires
-    same-length
-    returns
-    mul-write-node
-    sub-write-node
-    part-write-node-start
-    part-write-node-end
-    write-node-requires-2
-    same-length-2
-    returns-2)
+    (λ c. search needs) (λ c κs. search needs) (λ c. search needs) slice-aggregate-settle settle-requires (λ c. search needs) returns
+    (λ c. search needs) (λ c. search needs) (λ c. search needs) (λ c. search needs) write-node-requires-2 same-length-2 returns-2)

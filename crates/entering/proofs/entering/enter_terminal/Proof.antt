@@ -11,15 +11,6 @@ use Rattle.entering.proofs.LaidOut.{Sought, is-left, rest-fits, is-writ
 use Rattle.entering.proofs.entering.enter_terminal.Statement.{statement}
 use Rattle.entering.proofs.entering.enter_terminal.Tie as tie
 
-slice-aggregate-write-terminal : tie.Need-slice-aggregate-write-terminal
-slice-aggregate-write-terminal c = search needs
-
-write-terminal-requires : tie.Need-write-terminal-requires
-write-terminal-requires c κs = search needs
-
-array-share-prefix-entry : tie.Need-array-share-prefix-entry
-array-share-prefix-entry c = search needs
-
 slice-aggregate-settle : tie.Need-slice-aggregate-settle
 slice-aggregate-settle c = omega (arith, c .before .before .before .before .write-terminal .ensures .0, terminal-length (c .before .before .before .before .before .before .before .before .args .decision) (c .before .before .before .before .before .before .before .before .args .cards .now) _ (c .before .before .before .before .write-terminal .ensures .1 .1))
 
@@ -28,7 +19,7 @@ settle-requires c κs =
     let n = terminal-length (c .before .before .before .before .before .before .before .before .args .decision) (c .before .before .before .before .before .before .before .before .args .cards .now) _ (c .before .before .before .before .write-terminal .ensures .1 .1) in
     (c .before .before .before .before .before .before .before .before .pre .0, (omega (arith, n), omega (arith, n, c .before .before .before .before .before .before .before .before .pre .1)))
 
--- the entry was looked for
+-- what is known once the entry was looked for
 sought : (c : tie.After-settle) →
     let a = c .before .before .before .before .before .before .before .before .before .args in
     Sought (a .diagram .now) (a .index .now) (a .end) (terminal (record { decision = a .decision; cards = a .cards .now })) (c .settle .last .1 .1 .0) (c .settle .result .full) (c .settle .result .end) (c .settle .result .place)
@@ -43,23 +34,8 @@ sought c =
       settles = c .settle .ensures .1 .1;
     }
 
-same-length : tie.Need-same-length
-same-length c = search needs
-
 returns : tie.Need-returns
 returns c = is-left _ _ _ _ _ _ _ _ (sought (c .before .before)) (c .if1 .taken)
-
-mul-write-terminal : tie.Need-mul-write-terminal
-mul-write-terminal c = search needs
-
-sub-write-terminal : tie.Need-sub-write-terminal
-sub-write-terminal c = search needs
-
-part-write-terminal-start : tie.Need-part-write-terminal-start
-part-write-terminal-start c = search needs
-
-part-write-terminal-end : tie.Need-part-write-terminal-end
-part-write-terminal-end c = search needs
 
 write-terminal-requires-2 : tie.Need-write-terminal-requires-2
 write-terminal-requires-2 c κs = (c .before .before .before .before .before .before .before .before .before .before .before .before .pre .1, omega (arith, rest-fits _ _ _ _ _ _ _ _ (sought (c .before .before .before)) (c .before .if1 .left), terminal-length (c .before .before .before .before .before .before .before .before .before .before .before .before .args .decision) (c .before .before .before .before .before .before .before .before .before .before .before .before .args .cards .now) _ (c .before .before .before .before .before .before .before .before .write-terminal .ensures .1 .1), ap length (c .before .before .before .before .before .before .before .before .write-terminal .ensures .1 .1)))
@@ -74,17 +50,5 @@ pub enter-terminal-spec : {M : Type 1} → statement M
 enter-terminal-spec =
     tie.close
     (tie.spec
-    slice-aggregate-write-terminal
-    write-terminal-requires
-    array-share-prefix-entry
-    slice-aggregate-settle
-    settle-requires
-    same-length
-    returns
-    mul-write-terminal
-    sub-write-terminal
-    part-write-terminal-start
-    part-write-terminal-end
-    write-terminal-requires-2
-    same-length-2
-    returns-2)
+    (λ c. search needs) (λ c κs. search needs) (λ c. search needs) slice-aggregate-settle settle-requires (λ c. search needs) returns
+    (λ c. search needs) (λ c. search needs) (λ c. search needs) (λ c. search needs) write-terminal-requires-2 same-length-2 returns-2)

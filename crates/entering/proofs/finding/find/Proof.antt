@@ -15,33 +15,15 @@ Inv-loop diagram end index entry hash tried₀ tried = (tried ≤ tries) × (has
 abbrev μ-loop : tie.MeasureT-loop
 μ-loop diagram end index entry hash tried₀ tried = tries - tried
 
-hash-requires : tie.Need-hash-requires Inv-loop μ-loop
-hash-requires c κs = search needs
-
 loop-holds : tie.Need-loop-holds Inv-loop μ-loop
 loop-holds c =
     let s = c .before .before .before .args in
     (omega arith, c .hash .ensures .0, c .hash .ensures .1, tried-none (s .diagram .now) (s .end) (s .index .now) (s .entry .now))
 
-add-slot : tie.Need-add-slot Inv-loop μ-loop
-add-slot c = search needs
-
-mul-wide : tie.Need-mul-wide Inv-loop μ-loop
-mul-wide c = search needs
-
-element-copy-out-wide : tie.Need-element-copy-out-wide Inv-loop μ-loop
-element-copy-out-wide c = search needs
-
-wide-requires : tie.Need-wide-requires Inv-loop μ-loop
-wide-requires c κs = search needs
-
 returns : tie.Need-returns Inv-loop μ-loop
 returns c =
     let s = c .before .before .before .before .before .before .before .before .args in
     (omega arith, empty-finds (s .diagram .now) (s .end) (s .index .now) (s .entry .now) (c .before .before .before .before .before .hash .result) (c .before .before .before .before .loop .tried) (c .before .wide .result) (c .before .before .before .before .loop .inv .1) (c .before .before .before .before .loop .inv .3) (c .before .wide .ensures) (c .before .before .before .loop-test .taken) (c .if1 .taken))
-
-equal-at-requires : tie.Need-equal-at-requires Inv-loop μ-loop
-equal-at-requires c κs = search needs
 
 returns-2 : tie.Need-returns-2 Inv-loop μ-loop
 returns-2 c =
@@ -49,19 +31,10 @@ returns-2 c =
     let e = sym (c .if2 .taken) ∙ c .before .equal-at .ensures in
     (omega (arith, equal-before-end (s .diagram .now) (s .end) (c .before .before .before .wide .result) (s .entry .now) e), equal-finds (s .diagram .now) (s .end) (s .index .now) (s .entry .now) (c .before .before .before .before .before .before .before .hash .result) (c .before .before .before .before .before .before .loop .tried) (c .before .before .before .wide .result) (c .before .before .before .before .before .before .loop .inv .1) (c .before .before .before .before .before .before .loop .inv .3) (c .before .before .before .wide .ensures) (c .before .before .if1 .left) e)
 
-add-tried : tie.Need-add-tried Inv-loop μ-loop
-add-tried c = search needs
-
-loop-less : tie.Need-loop-less Inv-loop μ-loop
-loop-less c = search needs
-
 loop-again : tie.Need-loop-again Inv-loop μ-loop
 loop-again c =
     let s = c .before .before .before .before .before .before .before .before .before .before .args in
     (omega arith, c .before .before .before .before .before .before .loop .inv .1, c .before .before .before .before .before .before .loop .inv .2, tried-more (s .diagram .now) (s .end) (s .index .now) (s .entry .now) (c .before .before .before .before .before .before .before .hash .result) (c .before .before .before .before .before .before .loop .tried) (c .before .before .before .wide .result) (c .before .before .before .before .before .before .loop .inv .1) (c .before .before .before .before .before .before .loop .inv .3) (c .before .before .before .wide .ensures) (c .before .before .if1 .left) (sym (c .if2 .left) ∙ c .before .equal-at .ensures))
-
-scan-requires : tie.Need-scan-requires Inv-loop μ-loop
-scan-requires c κs = search needs
 
 returns-3 : tie.Need-returns-3 Inv-loop μ-loop
 returns-3 c =
@@ -73,19 +46,5 @@ pub find-spec : {M : Type 1} → statement M
 find-spec =
     tie.close
     (tie.spec
-    Inv-loop
-    μ-loop
-    hash-requires
-    loop-holds
-    add-slot
-    mul-wide
-    element-copy-out-wide
-    wide-requires
-    returns
-    equal-at-requires
-    returns-2
-    add-tried
-    loop-less
-    loop-again
-    scan-requires
-    returns-3)
+    Inv-loop μ-loop (λ c κs. search needs) loop-holds (λ c. search needs) (λ c. search needs) (λ c. search needs) (λ c κs. search needs)
+    returns (λ c κs. search needs) returns-2 (λ c. search needs) (λ c. search needs) loop-again (λ c κs. search needs) returns-3)

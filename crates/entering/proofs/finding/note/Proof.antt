@@ -7,17 +7,8 @@ use lib.Seq.{set-out}
 use Rattle.entering.proofs.finding.note.Statement.{statement}
 use Rattle.entering.proofs.finding.note.Tie as tie
 
-mul-index : tie.Need-mul-index
-mul-index c = search needs
-
-element-write-index : tie.Need-element-write-index
-element-write-index c = search needs
-
-returns : tie.Need-returns
-returns c = search needs
-
 returns-2 : tie.Need-returns-2
 returns-2 c = λ e. sym (set-out (c .before .args .index .now) (c .before .args .slot) (c .before .args .place) (omega (arith, e, c .if1 .left)))
 
 pub note-spec : {M : Type 1} → statement M
-note-spec = tie.close (tie.spec mul-index element-write-index returns returns-2)
+note-spec = tie.close (tie.spec (λ c. search needs) (λ c. search needs) (λ c. search needs) returns-2)

@@ -20,34 +20,10 @@ abbrev μ-loop : tie.MeasureT-loop
 loop-holds : tie.Need-loop-holds Inv-loop μ-loop
 loop-holds c = (c .before .before .pre .0, c .before .before .pre .1, c .before .before .pre .2, seek-starts (c .before .before .args .diagram .now) (c .before .before .args .end) (c .before .before .args .entry .now))
 
-size-at-requires : tie.Need-size-at-requires Inv-loop μ-loop
-size-at-requires c κs = search needs
-
-sub-if1 : tie.Need-sub-if1 Inv-loop μ-loop
-sub-if1 c = search needs
-
 returns : tie.Need-returns Inv-loop μ-loop
 returns c =
     let s = c .before .before .before .before .before .before .args in
     (omega arith, seek-within (s .diagram .now) (s .end) (s .entry .now) (c .before .before .before .loop .place) (c .before .before .before .loop .inv .3) (c .before .before .loop-test .taken) (omega (arith, c .if1 .taken, c .before .size-at .ensures .0)))
-
-add-next : tie.Need-add-next Inv-loop μ-loop
-add-next c = search needs
-
-mul-equal : tie.Need-mul-equal Inv-loop μ-loop
-mul-equal c = search needs
-
-sub-equal : tie.Need-sub-equal Inv-loop μ-loop
-sub-equal c = search needs
-
-part-equal-start : tie.Need-part-equal-start Inv-loop μ-loop
-part-equal-start c = search needs
-
-part-equal-end : tie.Need-part-equal-end Inv-loop μ-loop
-part-equal-end c = search needs
-
-equal-requires : tie.Need-equal-requires Inv-loop μ-loop
-equal-requires c κs = search needs
 
 returns-2 : tie.Need-returns-2 Inv-loop μ-loop
 returns-2 c =
@@ -71,19 +47,5 @@ pub scan-spec : {M : Type 1} → statement M
 scan-spec =
     tie.close
     (tie.spec
-    Inv-loop
-    μ-loop
-    loop-holds
-    size-at-requires
-    sub-if1
-    returns
-    add-next
-    mul-equal
-    sub-equal
-    part-equal-start
-    part-equal-end
-    equal-requires
-    returns-2
-    loop-less
-    loop-again
-    returns-3)
+    Inv-loop μ-loop loop-holds (λ c κs. search needs) (λ c. search needs) returns (λ c. search needs) (λ c. search needs)
+    (λ c. search needs) (λ c. search needs) (λ c. search needs) (λ c κs. search needs) returns-2 loop-less loop-again returns-3)

@@ -18,9 +18,6 @@ abbrev μ-loop : tie.MeasureT-loop
 slice-write-room : tie.Need-slice-write-room Inv-loop μ-loop
 slice-write-room c = omega (arith, c .pre .1)
 
-cast-room : tie.Need-cast-room Inv-loop μ-loop
-cast-room c = search needs
-
 slice-write-room-2 : tie.Need-slice-write-room-2 Inv-loop μ-loop
 slice-write-room-2 c = omega (arith, c .pre .1, length-set (c .args .room .now) 0 (c .args .level))
 
@@ -29,59 +26,14 @@ loop-holds c =
     let s = c .args in
     (omega arith, c .pre .0, omega (arith, c .pre .1, two-kept (s .room .now) 0 1 (s .level) (s .edges)), refl, refl)
 
-mul-room : tie.Need-mul-room Inv-loop μ-loop
-mul-room c = search needs
-
-element-copy-out-room : tie.Need-element-copy-out-room Inv-loop μ-loop
-element-copy-out-room c = search needs
-
-mul-room-2 : tie.Need-mul-room-2 Inv-loop μ-loop
-mul-room-2 c = search needs
-
-add-room : tie.Need-add-room Inv-loop μ-loop
-add-room c = search needs
-
-mul-room-3 : tie.Need-mul-room-3 Inv-loop μ-loop
-mul-room-3 c = search needs
-
-slice-write-room-3 : tie.Need-slice-write-room-3 Inv-loop μ-loop
-slice-write-room-3 c = search needs
-
-mul-room-4 : tie.Need-mul-room-4 Inv-loop μ-loop
-mul-room-4 c = search needs
-
-element-copy-out-room-2 : tie.Need-element-copy-out-room-2 Inv-loop μ-loop
-element-copy-out-room-2 c = search needs
-
-mul-room-5 : tie.Need-mul-room-5 Inv-loop μ-loop
-mul-room-5 c = search needs
-
-add-room-2 : tie.Need-add-room-2 Inv-loop μ-loop
-add-room-2 c = search needs
-
-mul-room-6 : tie.Need-mul-room-6 Inv-loop μ-loop
-mul-room-6 c = search needs
-
 slice-write-room-4 : tie.Need-slice-write-room-4 Inv-loop μ-loop
 slice-write-room-4 c = omega (arith, c .before .before .before .loop .inv .2, c .before .before .before .loop .inv .3, c .before .before .loop-test .taken, length-set (c .before .before .before .loop .room) (2 + 2 * c .before .before .before .loop .j) (getD (c .before .before .before .before .args .last .now) (c .before .before .before .loop .j) 0))
-
-add-j : tie.Need-add-j Inv-loop μ-loop
-add-j c = search needs
-
-loop-less : tie.Need-loop-less Inv-loop μ-loop
-loop-less c = search needs
 
 loop-again : tie.Need-loop-again Inv-loop μ-loop
 loop-again c =
     let v = c .before .before .before .loop .inv in
     let s = c .before .before .before .before .args in
     (omega arith, v .1, v .2, two-kept (c .before .before .before .loop .room) (2 + 2 * c .before .before .before .loop .j) (3 + 2 * c .before .before .before .loop .j) _ _ ∙ v .3, edge-written _ (s .last .now) (s .child .now) (c .before .before .before .loop .j) (c .before .before .before .loop .room) (v .4))
-
-mul-result : tie.Need-mul-result Inv-loop μ-loop
-mul-result c = search needs
-
-add-result : tie.Need-add-result Inv-loop μ-loop
-add-result c = search needs
 
 same-length : tie.Need-same-length Inv-loop μ-loop
 same-length c = c .before .loop .inv .3 ∙ two-kept (c .before .before .args .room .now) 0 1 (c .before .before .args .level) (c .before .before .args .edges)
@@ -98,28 +50,7 @@ pub write-node-spec : {M : Type 1} → statement M
 write-node-spec =
     tie.close
     (tie.spec
-    Inv-loop
-    μ-loop
-    slice-write-room
-    cast-room
-    slice-write-room-2
-    loop-holds
-    mul-room
-    element-copy-out-room
-    mul-room-2
-    add-room
-    mul-room-3
-    slice-write-room-3
-    mul-room-4
-    element-copy-out-room-2
-    mul-room-5
-    add-room-2
-    mul-room-6
-    slice-write-room-4
-    add-j
-    loop-less
-    loop-again
-    mul-result
-    add-result
-    same-length
-    returns)
+    Inv-loop μ-loop slice-write-room (λ c. search needs) slice-write-room-2 loop-holds (λ c. search needs) (λ c. search needs)
+    (λ c. search needs) (λ c. search needs) (λ c. search needs) (λ c. search needs) (λ c. search needs) (λ c. search needs)
+    (λ c. search needs) (λ c. search needs) (λ c. search needs) slice-write-room-4 (λ c. search needs) (λ c. search needs) loop-again
+    (λ c. search needs) (λ c. search needs) same-length returns)

@@ -8,14 +8,8 @@ use Rattle.entering.proofs.NumbersWritten.{rest-length, rest-kept, star
 use Rattle.entering.proofs.writing.write_terminal.Statement.{statement}
 use Rattle.entering.proofs.writing.write_terminal.Tie as tie
 
-slice-write-room : tie.Need-slice-write-room
-slice-write-room c = search needs
-
 slice-write-room-2 : tie.Need-slice-write-room-2
 slice-write-room-2 c = omega (arith, length-set (c .before .before .args .room .now) 0 0, c .before .before .pre .1)
-
-cast-room : tie.Need-cast-room
-cast-room c = search needs
 
 slice-write-room-3 : tie.Need-slice-write-room-3
 slice-write-room-3 c = omega (arith, two-kept (c .before .before .args .room .now) 0 1 0 (c .before .before .args .decision), c .before .before .pre .1)
@@ -26,17 +20,11 @@ sub-store c = omega (arith, three-kept (c .before .before .args .room .now) 0 1 
 part-store-start : tie.Need-part-store-start
 part-store-start c = omega (arith, three-kept (c .before .before .args .room .now) 0 1 2 0 (c .before .before .args .decision) (length (c .before .before .args .cards .now)), c .before .before .pre .1)
 
-part-store-end : tie.Need-part-store-end
-part-store-end c = search needs
-
 store-requires : tie.Need-store-requires
 store-requires c κs =
     let s = c .before .before .before .args in
     let k = three-kept (s .room .now) 0 1 2 0 (s .decision) (length (s .cards .now)) in
     omega (arith, k, c .before .before .before .pre .1, rest-length (set (set (set (s .room .now) 0 0) 1 (s .decision)) 2 (length (s .cards .now))) 3 (omega (arith, k, c .before .before .before .pre .1)))
-
-add-result : tie.Need-add-result
-add-result c = search needs
 
 same-length : tie.Need-same-length
 same-length c =
@@ -56,14 +44,5 @@ pub write-terminal-spec : {M : Type 1} → statement M
 write-terminal-spec =
     tie.close
     (tie.spec
-    slice-write-room
-    slice-write-room-2
-    cast-room
-    slice-write-room-3
-    sub-store
-    part-store-start
-    part-store-end
-    store-requires
-    add-result
-    same-length
-    returns)
+    (λ c. search needs) slice-write-room-2 (λ c. search needs) slice-write-room-3 sub-store part-store-start (λ c. search needs)
+    store-requires (λ c. search needs) same-length returns)

@@ -1,75 +1,78 @@
 -- `lines::fields_line` meets its contract.
 -- Assumes nothing.
-use mathlib.Core.List.{[], _∷_, _++_}
+use mathlib.Core.Path.{refl}
+use mathlib.Core.List.{List, [], _∷_, _++_}
+use Prim.Native.Nat.{ℕ, _≤_}
 use native.Mathlib.Omega.{arith}
 use borrow.Author.Needs.{needs}
-use lib.ListN.{drop, length-take}
+use lib.ListN.{length, drop, length-take}
 use Rattle.answer.specs.Fields.{fields}
 use Rattle.listing.proofs.LineFits.{small-part}
 use Rattle.listing.proofs.Lengths.{fields-line-short}
-use Rattle.listing.proofs.Writing.{room-rest, room-between, written-join}
+use Rattle.listing.proofs.Writing.{Partly, partly-none, partly-first, partly-more, partly-all}
 use Rattle.listing.specs.Paths.{maximaOf, firstLine}
-use Rattle.listing.specs.Written.{Room}
-use Rattle.listing.specs.Text.{items, newline, fieldsLine}
+use Rattle.listing.specs.Written.{RoomFor}
+use Rattle.listing.specs.Text.{items, newline, fieldsLine, mostLine}
 use Rattle.listing.proofs.lines.fields_line.Statement.{statement}
 use Rattle.listing.proofs.lines.fields_line.Tie as tie
 
-slice-aggregate-put-all : tie.Need-slice-aggregate-put-all
-slice-aggregate-put-all c = search needs
+-- what the call is given
+module _ (c : tie.After-shared-slice-known) where
+  abbrev maxima : List ℕ
+  maxima = maximaOf (c .before .args .diagram .now)
 
-put-all-requires : tie.Need-put-all-requires
-put-all-requires c κs = search needs
+  abbrev all : List ℕ
+  all = firstLine (c .before .args .diagram .now)
 
-add-put-items : tie.Need-add-put-items
-add-put-items c = search needs
+  fits : length all ≤ mostLine
+  fits =
+      let d = c .before .args .diagram .now in
+      fields-line-short maxima (small-part d (λ i. omega (arith, c .shared-slice-known .given i)) 2 fields) (omega (arith, length-take fields (drop 2 d)))
 
-sub-put-items : tie.Need-sub-put-items
-sub-put-items c = search needs
+  room : RoomFor (c .before .args .text .now) (c .before .args .at) all
+  room = omega (arith, fits)
 
-part-put-items-start : tie.Need-part-put-items-start
-part-put-items-start c = search needs
+  -- text u holds the line up to place b, without the rest
+  abbrev Pending : List ℕ → ℕ → List ℕ → Type 0
+  Pending u b rest = Partly (c .before .args .text .now) (c .before .args .at) all u b rest
 
-part-put-items-end : tie.Need-part-put-items-end
-part-put-items-end c = search needs
+-- what is left after the word
+module _ (c : tie.After-put-all) where
+  abbrev start : tie.After-shared-slice-known
+  start = c .before .before .before .before
+
+  word-put : Pending start (c .put-all .last .1 .0) (c .put-all .result) (items (maxima start) ++ newline ∷ [])
+  unfolding fieldsLine
+  word-put = partly-more (partly-none refl) refl (c .put-all .ensures)
+
+-- what is left after the maxima
+module _ (c : tie.After-put-items) where
+  abbrev worded : tie.After-put-all
+  worded = c .before .before .before .before .before
+
+  maxima-put : Pending (start worded) (c .put-items .last .1 .0) (c .put-items .result) (newline ∷ [])
+  maxima-put = partly-more (word-put worded) refl (c .put-items .ensures)
 
 put-items-requires : tie.Need-put-items-requires
-unfolding fieldsLine
 put-items-requires c κs =
-    let d = c .before .before .before .before .before .before .before .before .before .args .diagram .now in
-    let short = fields-line-short (maximaOf d) (small-part d (λ i. omega (arith, c .before .before .before .before .before .before .before .before .shared-slice-known .given i)) 2 fields) (omega (arith, length-take fields (drop 2 d))) in
-    let r : Room (c .before .before .before .before .before .before .before .before .before .args .text .now) (c .before .before .before .before .before .before .before .before .before .args .at) (firstLine d) = omega (arith, short) in
-    room-between (c .before .before .before .before .put-all .ensures) (items (maximaOf d)) (newline ∷ []) r
+    let w = c .before .before .before .before in
+    partly-first (word-put w) (items (maxima (start w))) (newline ∷ []) refl (room (start w))
 
 end-line-requires : tie.Need-end-line-requires
-unfolding fieldsLine
 end-line-requires c κs =
-    let d = c .before .before .before .before .before .before .before .before .before .before .before .before .before .args .diagram .now in
-    let short = fields-line-short (maximaOf d) (small-part d (λ i. omega (arith, c .before .before .before .before .before .before .before .before .before .before .before .before .shared-slice-known .given i)) 2 fields) (omega (arith, length-take fields (drop 2 d))) in
-    let r : Room (c .before .before .before .before .before .before .before .before .before .before .before .before .before .args .text .now) (c .before .before .before .before .before .before .before .before .before .before .before .before .before .args .at) (firstLine d) = omega (arith, short) in
-    room-rest (c .before .before .before .put-items .ensures) (newline ∷ []) (room-rest (c .before .before .before .before .before .before .before .before .put-all .ensures) (items (maximaOf d) ++ newline ∷ []) r)
-
-same-length : tie.Need-same-length
-same-length c = search needs
+    let m = c .before .before .before in
+    partly-first (maxima-put m) (newline ∷ []) [] refl (room (start (worded m)))
 
 returns : tie.Need-returns
-unfolding fieldsLine
 returns c =
-    let d = c .before .before .before .before .before .before .before .before .before .before .before .before .before .before .before .before .args .diagram .now in
-    let short = fields-line-short (maximaOf d) (small-part d (λ i. omega (arith, c .before .before .before .before .before .before .before .before .before .before .before .before .before .before .before .shared-slice-known .given i)) 2 fields) (omega (arith, length-take fields (drop 2 d))) in
-    let w = written-join (c .before .before .before .before .before .before .before .before .before .before .before .put-all .ensures) (items (maximaOf d) ++ newline ∷ []) (written-join (c .before .before .before .before .before .before .put-items .ensures) (newline ∷ []) (c .before .before .end-line .ensures)) in
-    (w, omega (arith, w .ends, short))
+    let e = c .before .before in
+    let m = e .before .before .before .before in
+    let w = partly-all (partly-more (maxima-put m) refl (e .end-line .ensures)) refl in
+    (w, omega (arith, w .ends, fits (start (worded m))))
 
 pub fields-line-spec : {M : Type 1} → statement M
 fields-line-spec =
     tie.close
     (tie.spec
-    slice-aggregate-put-all
-    put-all-requires
-    add-put-items
-    sub-put-items
-    part-put-items-start
-    part-put-items-end
-    put-items-requires
-    end-line-requires
-    same-length
-    returns)
+    (λ c. search needs) (λ c κs. search needs) (λ c. search needs) (λ c. search needs) (λ c. search needs) (λ c. search needs)
+    put-items-requires end-line-requires (λ c. search needs) returns)

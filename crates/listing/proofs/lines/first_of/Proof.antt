@@ -7,27 +7,6 @@ use Rattle.listing.proofs.Edges.{first-later}
 use Rattle.listing.proofs.lines.first_of.Statement.{statement}
 use Rattle.listing.proofs.lines.first_of.Tie as tie
 
-returns : tie.Need-returns
-returns c = search needs
-
-sub-before : tie.Need-sub-before
-sub-before c = search needs
-
-add-result : tie.Need-add-result
-add-result c = search needs
-
-mul-result : tie.Need-mul-result
-mul-result c = search needs
-
-add-result-2 : tie.Need-add-result-2
-add-result-2 c = search needs
-
-mul-result-2 : tie.Need-mul-result-2
-mul-result-2 c = search needs
-
-shared-slice-read-result : tie.Need-shared-slice-read-result
-shared-slice-read-result c = search needs
-
 cast-result : tie.Need-cast-result
 cast-result c = omega (arith, c .shared-slice-known .given (c .before .before .args .place + 2 + 2 * (c .before .before .args .edge - 1)))
 
@@ -41,13 +20,5 @@ pub first-of-spec : {M : Type 1} → statement M
 first-of-spec =
     tie.close
     (tie.spec
-    returns
-    sub-before
-    add-result
-    mul-result
-    add-result-2
-    mul-result-2
-    shared-slice-read-result
-    cast-result
-    add-result-3
-    returns-2)
+    (λ c. search needs) (λ c. search needs) (λ c. search needs) (λ c. search needs) (λ c. search needs) (λ c. search needs)
+    (λ c. search needs) cast-result add-result-3 returns-2)

@@ -11,15 +11,6 @@ use Rattle.listing.specs.Paths.{nextOf}
 use Rattle.listing.proofs.paths.next.Statement.{statement}
 use Rattle.listing.proofs.paths.next.Tie as tie
 
-shared-slice-read-next-from : tie.Need-shared-slice-read-next-from
-shared-slice-read-next-from c = search needs
-
-cast-next-from : tie.Need-cast-next-from
-cast-next-from c = search needs
-
-next-from-requires : tie.Need-next-from-requires
-next-from-requires c κs = search needs
-
 returns : tie.Need-returns
 returns c =
     let d = c .before .before .before .args .diagram .now in
@@ -30,4 +21,4 @@ returns c =
 
 pub next-spec : {M : Type 1} → statement M
 next-spec =
-    tie.close (tie.spec shared-slice-read-next-from cast-next-from next-from-requires returns)
+    tie.close (tie.spec (λ c. search needs) (λ c. search needs) (λ c κs. search needs) returns)

@@ -3,80 +3,78 @@
 use Prim.Native.Nat.{ℕ, _<_}
 use native.Mathlib.Omega.{arith}
 use borrow.Author.Needs.{needs}
-use borrow.Fn.Kinds.{In}
+use borrow.Fn.Kinds.{In, Out}
 use borrow.Fn.PlainCycle.{Measures, is, falls, and}
 use Rattle.listing.proofs.text.put.Reads as put-reads
 use Rattle.listing.proofs.text.put_decimal.Reads as put-decimal
-use Rattle.listing.proofs.text.put_decimal.Kinds as put-decimal-kinds
-use Rattle.listing.proofs.text.+put_decimal.Lts-put_decimal as put-decimal-lts
+use Rattle.listing.proofs.text.put_decimal.Kinds as kinds
+use Rattle.listing.proofs.text.+put_decimal.Lts-put_decimal as lts
 use Rattle.listing.proofs.Decimal.{tenth-less, digit-room, digit-written, tenth-room, last-room, last-written}
 use Rattle.listing.proofs.text.+put_decimal.{statement}
 use Rattle.listing.proofs.text.+put_decimal.Tie.{close}
 
-abbrev μ-put-decimal : Measures 1 put-decimal-kinds.ps ℕ
+abbrev μ-put-decimal : Measures 1 kinds.ps ℕ
 μ-put-decimal κs a = a .0
 
-abbrev put-decimal-at : ℕ → In 1 put-decimal-kinds.ps
-put-decimal-at t =
-    and 1 put-decimal-kinds.ps (is 1 put-decimal-kinds.ps μ-put-decimal t) put-decimal.Pre
+module _ (t : ℕ) where
+  abbrev at-measure : In 1 kinds.ps
+  at-measure = and 1 kinds.ps (is 1 kinds.ps μ-put-decimal t) put-decimal.Pre
 
-abbrev put-decimal-below : ℕ → In 1 put-decimal-kinds.ps
-put-decimal-below t =
-    and 1 put-decimal-kinds.ps (falls 1 put-decimal-kinds.ps _<_ μ-put-decimal t) put-decimal.Pre
+  abbrev claims : lts.Claims
+  claims = (
+    put-reads.Asked,
+    put-reads.Learnt,
+    and 1 kinds.ps (falls 1 kinds.ps _<_ μ-put-decimal t) put-decimal.Pre,
+    put-decimal.Post,
+  )
 
-abbrev put-decimal-claims : ℕ → put-decimal-lts.Claims
-put-decimal-claims t = (
-  put-reads.Asked,
-  put-reads.Learnt,
-  put-decimal-below t,
-  put-decimal.Post,
-)
+  -- a place of the code, or a need, at measure t
+  abbrev Here : (lts.Claims → In 1 kinds.ps → Out 1 kinds.ps kinds.r → Type 0) → Type 0
+  Here P = P claims at-measure put-decimal.Post
 
-put-decimal-cast-put : (t : ℕ) → put-decimal-lts.Need-cast-put (put-decimal-claims t) (put-decimal-at t) put-decimal.Post
-put-decimal-cast-put t c = search needs
+  put-requires : Here lts.Need-put-requires
+  put-requires c κs =
+      let s = c .before .before .before in
+      digit-room (s .args .number) (s .args .text .now) (s .args .at) (c .before .if1 .taken) (s .pre .1)
 
-put-decimal-add-put : (t : ℕ) → put-decimal-lts.Need-add-put (put-decimal-claims t) (put-decimal-at t) put-decimal.Post
-put-decimal-add-put t c = search needs
+  returns : Here lts.Need-returns
+  returns c =
+      let i = c .before .before .before .before in
+      digit-written (i .before .before .args .number) (i .if1 .taken) (c .before .before .put .ensures)
 
-put-decimal-put-requires : (t : ℕ) → put-decimal-lts.Need-put-requires (put-decimal-claims t) (put-decimal-at t) put-decimal.Post
-put-decimal-put-requires t c κs = digit-room (c .before .before .before .args .number) (c .before .before .before .args .text .now) (c .before .before .before .args .at) (c .before .if1 .taken) (c .before .before .before .pre .1)
+  put-decimal-requires : Here lts.Need-put-decimal-requires
+  put-decimal-requires c κs =
+      let s = c .before .before .before in
+      let l = c .before .if1 .left in (
+        omega (arith, tenth-less (s .args .number) l, s .pre .0),
+        tenth-room (s .args .number) (s .args .text .now) (s .args .at) l (s .pre .1),
+      )
 
-put-decimal-same-length : (t : ℕ) → put-decimal-lts.Need-same-length (put-decimal-claims t) (put-decimal-at t) put-decimal.Post
-put-decimal-same-length t c = search needs
+  put-requires-2 : Here lts.Need-put-requires-2
+  put-requires-2 c κs =
+      let d = c .before .before .before in
+      let i = d .before .before in
+      last-room (i .before .before .args .number) (i .if1 .left) (d .put-decimal .ensures) (i .before .before .pre .1)
 
-put-decimal-returns : (t : ℕ) → put-decimal-lts.Need-returns (put-decimal-claims t) (put-decimal-at t) put-decimal.Post
-put-decimal-returns t c = digit-written (c .before .before .before .before .before .before .args .number) (c .before .before .before .before .before .before .args .text .now) (c .before .before .before .before .before .before .args .at) (c .before .before .before .before .if1 .taken) _ _ (c .before .before .put .ensures)
-
-put-decimal-put-decimal-requires : (t : ℕ) → put-decimal-lts.Need-put-decimal-requires (put-decimal-claims t) (put-decimal-at t) put-decimal.Post
-put-decimal-put-decimal-requires t c κs = (omega (arith, tenth-less (c .before .before .before .args .number) (c .before .if1 .left), c .before .before .before .pre .0), tenth-room (c .before .before .before .args .number) (c .before .before .before .args .text .now) (c .before .before .before .args .at) (c .before .if1 .left) (c .before .before .before .pre .1))
-
-put-decimal-cast-put-2 : (t : ℕ) → put-decimal-lts.Need-cast-put-2 (put-decimal-claims t) (put-decimal-at t) put-decimal.Post
-put-decimal-cast-put-2 t c = search needs
-
-put-decimal-add-put-2 : (t : ℕ) → put-decimal-lts.Need-add-put-2 (put-decimal-claims t) (put-decimal-at t) put-decimal.Post
-put-decimal-add-put-2 t c = search needs
-
-put-decimal-put-requires-2 : (t : ℕ) → put-decimal-lts.Need-put-requires-2 (put-decimal-claims t) (put-decimal-at t) put-decimal.Post
-put-decimal-put-requires-2 t c κs = last-room (c .before .before .before .before .before .before .before .args .number) (c .before .before .before .before .before .before .before .args .text .now) (c .before .before .before .before .before .before .before .args .at) (c .before .before .before .before .before .if1 .left) _ _ (c .before .before .before .put-decimal .ensures) (c .before .before .before .before .before .before .before .pre .1)
-
-put-decimal-same-length-2 : (t : ℕ) → put-decimal-lts.Need-same-length-2 (put-decimal-claims t) (put-decimal-at t) put-decimal.Post
-put-decimal-same-length-2 t c = search needs
-
-put-decimal-returns-2 : (t : ℕ) → put-decimal-lts.Need-returns-2 (put-decimal-claims t) (put-decimal-at t) put-decimal.Post
-put-decimal-returns-2 t c = last-written (c .before .before .before .before .before .before .before .before .before .before .args .number) (c .before .before .before .before .before .before .before .before .before .before .args .text .now) (c .before .before .before .before .before .before .before .before .before .before .args .at) (c .before .before .before .before .before .before .before .before .if1 .left) _ _ (c .before .before .before .before .before .before .put-decimal .ensures) _ _ (c .before .before .put2 .ensures)
+  returns-2 : Here lts.Need-returns-2
+  returns-2 c =
+      let p = c .before .before in
+      let d = p .before .before .before .before in
+      let i = d .before .before in
+      last-written (i .before .before .args .number) (i .if1 .left) (d .put-decimal .ensures) (p .put2 .ensures)
 
 pub +put-decimal-spec : {M : Type 1} → statement M
-+put-decimal-spec = close μ-put-decimal λ t. put-decimal-lts.spec (put-decimal-claims t)
-    (put-decimal-at t)
++put-decimal-spec = close μ-put-decimal λ t. lts.spec (claims t)
+    (at-measure t)
     put-decimal.Post
-    (put-decimal-cast-put t)
-    (put-decimal-add-put t)
-    (put-decimal-put-requires t)
-    (put-decimal-same-length t)
-    (put-decimal-returns t)
-    (put-decimal-put-decimal-requires t)
-    (put-decimal-cast-put-2 t)
-    (put-decimal-add-put-2 t)
-    (put-decimal-put-requires-2 t)
-    (put-decimal-same-length-2 t)
-    (put-decimal-returns-2 t)
+    (λ c. search needs)
+    (λ c. search needs)
+    (put-requires t)
+    (λ c. search needs)
+    (returns t)
+    (put-decimal-requires t)
+    (λ c. search needs)
+    (λ c. search needs)
+    (put-requires-2 t)
+    (λ c. search needs)
+    (returns-2 t)

@@ -1,13 +1,14 @@
 -- `text::put_all` meets its contract: the bytes before the i-th are written.
 -- Assumes nothing.
-use mathlib.Core.Path.{refl}
-use mathlib.Core.List.{[], _∷_}
-use Prim.Native.Nat.{_+_, _-_, _≤_}
+use mathlib.Core.Path.{_≡_, refl}
+use mathlib.Core.List.{List, [], _∷_}
+use Prim.Native.Nat.{ℕ, _+_, _-_, _≤_}
 use native.Mathlib.Omega.{arith}
 use borrow.Author.Needs.{needs}
 use lib.ListN.{length, drop, getD}
 use Rattle.listing.proofs.Writing.{Partly, partly-none, partly-first, partly-more, partly-all, written-long}
 use Rattle.listing.proofs.Parts.{next-left, none-left}
+use Rattle.listing.specs.Written.{Written}
 use Rattle.listing.proofs.text.put_all.Statement.{statement}
 use Rattle.listing.proofs.text.put_all.Tie as tie
 
@@ -17,49 +18,42 @@ Inv-loop bytes text₀ at end₀ i₀ text end i = (i ≤ length bytes) × Partl
 abbrev μ-loop : tie.MeasureT-loop
 μ-loop bytes text₀ at end₀ i₀ text end i = length bytes - i
 
-loop-holds : tie.Need-loop-holds Inv-loop μ-loop
-loop-holds c = (omega arith, partly-none (c .before .before .args .text .now) (c .before .before .args .at) (c .before .before .args .bytes .now) _ refl)
+-- before a byte, and after the last
+module _ (c : tie.At-loop Inv-loop μ-loop) where
+  abbrev start : tie.Start Inv-loop μ-loop
+  start = c .before .before .before
 
-shared-slice-read-put : tie.Need-shared-slice-read-put Inv-loop μ-loop
-shared-slice-read-put c = search needs
+  abbrev bytes : List ℕ
+  bytes = start .args .bytes .now
+
+  written : length bytes ≤ c .loop .i → Written (start .args .text .now) (c .loop .text) (start .args .at) (c .loop .end) bytes
+  written l = partly-all (c .loop .inv .1) (none-left bytes (c .loop .i) l)
+
+-- the next byte
+next : (c : tie.In-loop Inv-loop μ-loop) → let i = c .before .loop .i in let b = bytes (c .before) in drop i b ≡ getD b i 0 ∷ drop (i + 1) b
+next c = next-left (bytes (c .before)) (c .before .loop .i) (c .loop-test .taken)
+
+loop-holds : tie.Need-loop-holds Inv-loop μ-loop
+loop-holds c = (omega arith, partly-none refl)
 
 put-requires : tie.Need-put-requires Inv-loop μ-loop
 put-requires c κs =
-    let bytes = c .before .before .before .before .before .before .args .bytes .now in
-    let i = c .before .before .before .loop .i in
-    partly-first (c .before .before .before .before .before .before .args .text .now) (c .before .before .before .before .before .before .args .at) bytes (c .before .before .before .loop .text) (c .before .before .before .loop .end) (getD bytes i 0 ∷ []) (drop (i + 1) bytes) (drop i bytes) (next-left bytes i (c .before .before .loop-test .taken)) (c .before .before .before .loop .inv .1) (c .before .before .before .before .before .before .pre)
-
-add-i : tie.Need-add-i Inv-loop μ-loop
-add-i c = search needs
-
-loop-less : tie.Need-loop-less Inv-loop μ-loop
-loop-less c = search needs
+    let t = c .before .before in
+    partly-first (t .before .loop .inv .1) (getD (bytes (t .before)) (t .before .loop .i) 0 ∷ []) _ (next t) (start (t .before) .pre)
 
 loop-again : tie.Need-loop-again Inv-loop μ-loop
 loop-again c =
-    let bytes = c .before .before .before .before .before .before .before .before .before .args .bytes .now in
-    let i = c .before .before .before .before .before .before .loop .i in
-    (omega arith, partly-more (c .before .before .before .before .before .before .before .before .before .args .text .now) (c .before .before .before .before .before .before .before .before .before .args .at) bytes (c .before .before .before .before .before .before .loop .text) (c .before .before .before .before .before .before .loop .end) (getD bytes i 0 ∷ []) (drop (i + 1) bytes) (drop i bytes) _ _ (next-left bytes i (c .before .before .before .before .before .loop-test .taken)) (c .before .before .before .before .before .before .loop .inv .1) (c .before .before .put .ensures))
+    let t = c .before .before .before .before .before in
+    (omega arith, partly-more (t .before .loop .inv .1) (next t) (c .before .before .put .ensures))
 
 same-length : tie.Need-same-length Inv-loop μ-loop
-same-length c = written-long (partly-all (c .before .before .before .before .args .text .now) (c .before .before .before .before .args .at) (c .before .before .before .before .args .bytes .now) (c .before .loop .text) (c .before .loop .end) _ (none-left (c .before .before .before .before .args .bytes .now) (c .before .loop .i) (c .loop-test .left)) (c .before .loop .inv .1))
+same-length c = written-long (written (c .before) (c .loop-test .left))
 
 returns : tie.Need-returns Inv-loop μ-loop
-returns c =
-    let bytes = c .before .before .before .before .args .bytes .now in
-    partly-all (c .before .before .before .before .args .text .now) (c .before .before .before .before .args .at) bytes (c .before .loop .text) (c .before .loop .end) _ (none-left bytes (c .before .loop .i) (c .loop-test .left)) (c .before .loop .inv .1)
+returns c = written (c .before) (c .loop-test .left)
 
 pub put-all-spec : {M : Type 1} → statement M
 put-all-spec =
     tie.close
     (tie.spec
-    Inv-loop
-    μ-loop
-    loop-holds
-    shared-slice-read-put
-    put-requires
-    add-i
-    loop-less
-    loop-again
-    same-length
-    returns)
+    Inv-loop μ-loop loop-holds (λ c. search needs) put-requires (λ c. search needs) (λ c. search needs) loop-again same-length returns)

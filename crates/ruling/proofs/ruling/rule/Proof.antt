@@ -1,112 +1,118 @@
 -- `ruling::ruling::rule` meets its contract, on each way out.
 -- Assumes nothing.
 use mathlib.Core.Path.{_≡_, ap, _∙_}
+use mathlib.Core.List.{List}
+use Prim.Native.Nat.{ℕ, _≤_}
 use native.Mathlib.Omega.{arith}
 use borrow.Author.Needs.{needs}
 use lib.ListN.{length}
 use Rattle.answer.specs.Answers.{zeros}
 use Rattle.answer.specs.Requests.{fieldFault}
+use Rattle.answer.proofs.RequestRefusals.{asked-before, asked-over, asked-short, asked-ruled}
+use Rattle.answer.proofs.Stored.{stored-cleared}
 use Rattle.table.specs.Layout.{maximum}
+use Rattle.table.specs.Reading.{tableRefusals, Accepted}
+use Rattle.table.proofs.Accepting.{read-accepted, read-refused}
+use Rattle.table.proofs.AcceptedIsWellFormed.{well-formed}
+use Rattle.table.proofs.Places.{header-held}
 use Rattle.table.proofs.Maxima.{maxima-fault}
-use Rattle.ruling.proofs.Outcome.{read-zero, read-formed, unread, over, short, good}
+use Rattle.ruling.specs.Ruling.{groups}
 use Rattle.ruling.proofs.ruling.rule.Statement.{statement}
 use Rattle.ruling.proofs.ruling.rule.Tie as tie
 
--- the faulty field by the table's maxima
-fault : (c : tie.After-field-fault) → c .field-fault .result ≡ fieldFault (maximum (c .before .before .before .before .before .before .before .before .before .before .before .before .before .before .args .table .now)) (c .before .before .before .before .before .before .before .before .before .before .before .before .before .before .args .request .values)
-fault c =
-    c .field-fault .ensures
-    ∙ maxima-fault (c .before .before .before .before .before .before .before .before .before .before .before .before .before .before .args .table .now) (c .before .before .before .maxima-at .result) (c .before .before .before .before .before .before .before .before .before .before .before .before .before .before .args .request .values) (c .before .before .before .maxima-at .ensures)
+-- what the call is given, once the list is cleared
+module _ (c : tie.After-clear) where
+  abbrev table : List ℕ
+  table = c .before .before .before .before .args .table .now
 
-clear-requires : tie.Need-clear-requires
-clear-requires c κs = search needs
+  abbrev values : List ℕ
+  values = c .before .before .before .before .args .request .values
 
-read-requires : tie.Need-read-requires
-read-requires c κs = search needs
+  abbrev places : ℕ
+  places = length (c .before .before .before .before .args .cards .now)
 
-same-length : tie.Need-same-length
-same-length c = search needs
+-- once the table is read
+abbrev cleared : tie.After-struct-known → tie.After-clear
+cleared c = c .before .before .before .before
+
+-- where it was accepted
+module _ (c : tie.Else1) where
+  abbrev start : tie.After-clear
+  start = cleared (c .before)
+
+  accepted : Accepted (table start)
+  accepted = read-accepted (table start) (c .before .before .read .result) (c .before .before .read .ensures) (c .if1 .left)
+
+-- once the fields are looked at
+module _ (c : tie.After-field-fault) where
+  abbrev read : tie.Else1
+  read = c .before .before .before .before .before
+
+  fault : c .field-fault .result ≡ fieldFault (maximum (table (start read))) (values (start read)) 0
+  fault =
+      c .field-fault .ensures
+      ∙ maxima-fault (table (start read)) (c .before .before .before .maxima-at .result) (values (start read)) 0 (omega arith)
+      (c .before .before .before .maxima-at .ensures)
+
+-- once the groups have ruled, where no field is over its maximum
+module _ (c : tie.After-rule-read) where
+  abbrev within : tie.Else2
+  within = c .before .before .before
+
+  abbrev listed : List ℕ
+  listed = c .rule-read .last .1 .1 .0
+
+  same-places : length listed ≡ places (start (read (within .before)))
+  same-places = c .rule-read .kept .1 .1 .0 ∙ start (read (within .before)) .clear .kept .0
 
 returns : tie.Need-returns
 returns c =
-    let s = c .before .before .before .before .before .before .before .before .before .args in
-    unread (s .table .now) (s .request .values) (length (s .cards .now)) (c .before .before .read .result) (c .before .before .before .before .before .clear .last .0) (c .before .before .read .ensures) (c .if1 .taken) (c .before .before .before .before .before .clear .ensures)
+    let s = cleared (c .before) in
+    let r = c .before .before .read in
+    let f = read-refused (table s) (r .result) (r .ensures) (c .if1 .taken) in
+    asked-before (tableRefusals (table s)) (maximum (table s)) (values s) (groups (table s) (values s)) (places s) (r .result) (s .clear .last .0)
+    (f .1 .0) (f .1 .1) (s .clear .ensures)
 
 maxima-at-requires : tie.Need-maxima-at-requires
-maxima-at-requires c κs =
-    omega (arith, read-formed (c .before .before .before .before .before .before .before .before .before .before .args .table .now) (c .before .before .before .read .result) (c .before .before .before .read .ensures) (c .before .if1 .left) .records)
-
-slice-aggregate-field-fault : tie.Need-slice-aggregate-field-fault
-slice-aggregate-field-fault c = search needs
-
-field-fault-requires : tie.Need-field-fault-requires
-field-fault-requires c κs = search needs
-
-refused-requires : tie.Need-refused-requires
-refused-requires c κs = search needs
-
-same-length-2 : tie.Need-same-length-2
-same-length-2 c = search needs
+maxima-at-requires c κs = let t = table (start (c .before)) in header-held t (well-formed t (accepted (c .before)) .records)
 
 returns-2 : tie.Need-returns-2
 returns-2 c =
-    let s = c .before .before .before .before .before .before .before .before .before .before .before .before .before .before .before .before .args in
-    over (s .table .now) (s .request .values) (length (s .cards .now)) (read-zero (s .table .now) (c .before .before .before .before .before .before .before .before .before .read .result) (c .before .before .before .before .before .before .before .before .before .read .ensures) (c .before .before .before .before .before .before .before .if1 .left)) (c .refused .result) (c .before .before .before .before .before .before .before .before .before .before .before .before .clear .last .0) (c .before .before .field-fault .result) (fault (c .before .before)) (c .before .if2 .taken) (c .refused .ensures) (c .before .before .before .before .before .before .before .before .before .before .before .before .clear .ensures)
+    let f = c .before .before in
+    let s = start (read f) in
+    asked-over (tableRefusals (table s)) (maximum (table s)) (values s) (groups (table s) (values s)) (places s) (c .refused .result) (s .clear .last .0)
+    (accepted (read f)) (f .field-fault .result) (fault f) (c .before .if2 .taken) (c .refused .ensures) (s .clear .ensures)
 
 rule-read-requires : tie.Need-rule-read-requires
-rule-read-requires c κs =
-    read-formed (c .before .before .before .before .before .before .before .before .before .before .before .before .before .before .before .before .before .args .table .now) (c .before .before .before .before .before .before .before .before .before .before .read .result) (c .before .before .before .before .before .before .before .before .before .before .read .ensures) (c .before .before .before .before .before .before .before .before .if1 .left)
-
-clear-requires-2 : tie.Need-clear-requires-2
-clear-requires-2 c κs = search needs
-
-refused-requires-2 : tie.Need-refused-requires-2
-refused-requires-2 c κs = search needs
-
-same-length-3 : tie.Need-same-length-3
-same-length-3 c = search needs
+rule-read-requires c κs = let r = read (c .before .before .before) in well-formed (table (start r)) (accepted r)
 
 returns-3 : tie.Need-returns-3
 returns-3 c =
-    let s = c .before .before .before .before .before .before .before .before .before .before .before .before .before .before .before .before .before .before .before .before .before .before .before .before .before .before .before .args in
-    let l : length (c .before .before .before .before .before .before .before .before .before .rule-read .last .1 .1 .0) ≡ length (s .cards .now) = c .before .before .before .before .before .before .before .before .before .rule-read .kept .1 .1 .0 ∙ c .before .before .before .before .before .before .before .before .before .before .before .before .before .before .before .before .before .before .before .before .before .before .before .clear .kept .0 in
-    short (s .table .now) (s .request .values) (length (s .cards .now)) (read-zero (s .table .now) (c .before .before .before .before .before .before .before .before .before .before .before .before .before .before .before .before .before .before .before .before .read .result) (c .before .before .before .before .before .before .before .before .before .before .before .before .before .before .before .before .before .before .before .before .read .ensures) (c .before .before .before .before .before .before .before .before .before .before .before .before .before .before .before .before .before .before .if1 .left))
-    (c .before .before .before .before .before .before .before .before .before .before .before .before .before .field-fault .result) (fault (c .before .before .before .before .before .before .before .before .before .before .before .before .before)) (c .before .before .before .before .before .before .before .before .before .before .before .before .if2 .left) (c .before .before .before .before .before .before .before .before .before .rule-read .result .count) (c .before .before .before .before .before .before .before .before .before .rule-read .ensures .0 .1) (c .refused2 .result) (c .before .before .before .clear2 .last .0)
-    (omega (arith, l, c .before .before .before .before .before .if3 .taken)) (c .refused2 .ensures) (c .before .before .before .clear2 .ensures ∙ ap zeros l)
-
-ruled-requires : tie.Need-ruled-requires
-ruled-requires c κs = search needs
-
-same-length-4 : tie.Need-same-length-4
-same-length-4 c = search needs
+    let g = c .before .before .before .before .before .before .before .before .before in
+    let w = within g in
+    let s = start (read (w .before)) in
+    asked-short (tableRefusals (table s)) (maximum (table s)) (values s) (groups (table s) (values s)) (places s) (c .refused2 .result)
+    (c .before .before .before .clear2 .last .0) (accepted (read (w .before))) (w .before .field-fault .result) (fault (w .before)) (w .if2 .left)
+    (g .rule-read .result .count) (g .rule-read .ensures .0 .1) (omega (arith, same-places g, c .before .before .before .before .before .if3 .taken))
+    (c .refused2 .ensures) (c .before .before .before .clear2 .ensures ∙ ap zeros (same-places g))
 
 returns-4 : tie.Need-returns-4
 returns-4 c =
-    let s = c .before .before .before .before .before .before .before .before .before .before .before .before .before .before .before .before .before .before .before .before .before .before .before .args in
-    let l : length (c .before .before .before .before .before .rule-read .last .1 .1 .0) ≡ length (s .cards .now) = c .before .before .before .before .before .rule-read .kept .1 .1 .0 ∙ c .before .before .before .before .before .before .before .before .before .before .before .before .before .before .before .before .before .before .before .clear .kept .0 in
-    good (s .table .now) (s .request .values) (length (s .cards .now)) (read-zero (s .table .now) (c .before .before .before .before .before .before .before .before .before .before .before .before .before .before .before .before .read .result) (c .before .before .before .before .before .before .before .before .before .before .before .before .before .before .before .before .read .ensures) (c .before .before .before .before .before .before .before .before .before .before .before .before .before .before .if1 .left))
-    (c .before .before .before .before .before .before .before .before .before .field-fault .result) (fault (c .before .before .before .before .before .before .before .before .before)) (c .before .before .before .before .before .before .before .before .if2 .left) (c .before .before .before .before .before .rule-read .result .count) (c .before .before .before .before .before .rule-read .ensures .0 .1) (c .ruled .result) (c .before .before .before .before .before .rule-read .last .1 .1 .0) (c .before .before .before .before .before .before .before .before .before .before .before .before .before .before .before .before .before .before .before .clear .last .0) (c .before .before .before .before .before .rule-read .result .decision)
-    (omega (arith, l, c .before .if3 .left)) (c .before .before .before .before .before .before .before .before .before .before .before .before .before .before .before .before .before .before .before .clear .ensures) (c .before .before .before .before .before .rule-read .ensures .1) (c .before .before .before .before .before .rule-read .ensures .0 .0) (c .ruled .ensures)
+    let g = c .before .before .before .before .before in
+    let w = within g in
+    let s = start (read (w .before)) in
+    let cards = groups (table s) (values s) .cards in
+    let count = g .rule-read .ensures .0 .1 in
+    let fits : g .rule-read .result .count ≤ places s = omega (arith, same-places g, c .before .if3 .left) in
+    asked-ruled (tableRefusals (table s)) (maximum (table s)) (values s) (groups (table s) (values s)) (places s) (c .ruled .result) (listed g)
+    (accepted (read (w .before))) (w .before .field-fault .result) (fault (w .before)) (w .if2 .left) (g .rule-read .result .count) count
+    (g .rule-read .result .decision) fits (g .rule-read .ensures .0 .0) (c .ruled .ensures)
+    (stored-cleared cards (listed g) (s .clear .last .0) (places s) (s .clear .ensures) (g .rule-read .ensures .1) (omega (arith, count)))
 
 pub rule-spec : {M : Type 1} → statement M
 rule-spec =
     tie.close
     (tie.spec
-    clear-requires
-    read-requires
-    same-length
-    returns
-    maxima-at-requires
-    slice-aggregate-field-fault
-    field-fault-requires
-    refused-requires
-    same-length-2
-    returns-2
-    rule-read-requires
-    clear-requires-2
-    refused-requires-2
-    same-length-3
-    returns-3
-    ruled-requires
-    same-length-4
-    returns-4)
+    (λ c κs. search needs) (λ c κs. search needs) (λ c. search needs) returns maxima-at-requires (λ c. search needs) (λ c κs. search needs)
+    (λ c κs. search needs) (λ c. search needs) returns-2 rule-read-requires (λ c κs. search needs) (λ c κs. search needs)
+    (λ c. search needs) returns-3 (λ c κs. search needs) (λ c. search needs) returns-4)

@@ -21,29 +21,8 @@ abbrev μ-loop : tie.MeasureT-loop
 loop-holds : tie.Need-loop-holds Inv-loop μ-loop
 loop-holds c = (omega arith, refl)
 
-low-at-requires : tie.Need-low-at-requires Inv-loop μ-loop
-low-at-requires c κs = search needs
-
-high-at-requires : tie.Need-high-at-requires Inv-loop μ-loop
-high-at-requires c κs = search needs
-
-mul-in-range : tie.Need-mul-in-range Inv-loop μ-loop
-mul-in-range c = search needs
-
-element-copy-out-in-range : tie.Need-element-copy-out-in-range Inv-loop μ-loop
-element-copy-out-in-range c = search needs
-
-in-range-requires : tie.Need-in-range-requires Inv-loop μ-loop
-in-range-requires c κs = search needs
-
 returns : tie.Need-returns Inv-loop μ-loop
 returns c = target-fails (c .before .before .before .before .before .before .before .before .args .table .now) (c .before .before .before .before .before .before .before .before .args .values .now) (c .before .before .before .before .before .before .before .before .args .i) (c .before .before .before .before .before .before .loop .field) (c .before .before .before .before .low-at .result) (c .before .before .before .high-at .result) (c .before .in-range .result) (c .before .before .before .before .before .loop-test .taken) (c .before .before .before .before .low-at .ensures) (c .before .before .before .high-at .ensures) (c .before .in-range .ensures) (not-true _ (c .if1 .taken))
-
-add-field : tie.Need-add-field Inv-loop μ-loop
-add-field c = search needs
-
-loop-less : tie.Need-loop-less Inv-loop μ-loop
-loop-less c = search needs
 
 loop-again : tie.Need-loop-again Inv-loop μ-loop
 loop-again c = (omega arith, target-next (c .before .before .before .before .before .before .before .before .args .table .now) (c .before .before .before .before .before .before .before .before .args .values .now) (c .before .before .before .before .before .before .before .before .args .i) (c .before .before .before .before .before .before .loop .field) (c .before .before .before .before .low-at .result) (c .before .before .before .high-at .result) (c .before .in-range .result) (c .before .before .before .before .low-at .ensures) (c .before .before .before .high-at .ensures) (c .before .in-range .ensures) (not-false _ (c .if1 .left)) (c .before .before .before .before .before .before .loop .inv .1))
@@ -55,16 +34,5 @@ pub target-holds-spec : {M : Type 1} → statement M
 target-holds-spec =
     tie.close
     (tie.spec
-    Inv-loop
-    μ-loop
-    loop-holds
-    low-at-requires
-    high-at-requires
-    mul-in-range
-    element-copy-out-in-range
-    in-range-requires
-    returns
-    add-field
-    loop-less
-    loop-again
-    returns-2)
+    Inv-loop μ-loop loop-holds (λ c κs. search needs) (λ c κs. search needs) (λ c. search needs) (λ c. search needs) (λ c κs. search needs)
+    returns (λ c. search needs) (λ c. search needs) loop-again returns-2)

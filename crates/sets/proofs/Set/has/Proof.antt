@@ -6,12 +6,6 @@ use Rattle.sets.proofs.SetNumbers.{has-low, has-high}
 use Rattle.sets.proofs.Set.has.Statement.{statement}
 use Rattle.sets.proofs.Set.has.Tie as tie
 
-bit-at-requires : tie.Need-bit-at-requires
-bit-at-requires c κs = search needs
-
-bit-at-requires-2 : tie.Need-bit-at-requires-2
-bit-at-requires-2 c κs = search needs
-
 returns : tie.Need-returns
 returns c = c .bit-at .ensures ∙ sym (has-low _ _ (c .before .if1 .taken))
 
@@ -19,4 +13,4 @@ returns-2 : tie.Need-returns-2
 returns-2 c = c .bit-at2 .ensures ∙ sym (has-high _ _ (c .before .if1 .left))
 
 pub has-spec : {M : Type 1} → statement M
-has-spec = tie.close (tie.spec bit-at-requires bit-at-requires-2 returns returns-2)
+has-spec = tie.close (tie.spec (λ c κs. search needs) (λ c κs. search needs) returns returns-2)

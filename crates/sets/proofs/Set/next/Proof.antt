@@ -6,17 +6,8 @@ use Rattle.sets.proofs.NextNumber.{next-low, next-over, next-high, next
 use Rattle.sets.proofs.Set.next.Statement.{statement}
 use Rattle.sets.proofs.Set.next.Tie as tie
 
-next-at-requires : tie.Need-next-at-requires
-next-at-requires c κs = search needs
-
-next-at-requires-2 : tie.Need-next-at-requires-2
-next-at-requires-2 c κs = search needs
-
 add-result : tie.Need-add-result
 add-result c = omega (arith, c .next-at2 .ensures .most)
-
-next-at-requires-3 : tie.Need-next-at-requires-3
-next-at-requires-3 c κs = search needs
 
 add-result-2 : tie.Need-add-result-2
 add-result-2 c = omega (arith, c .next-at3 .ensures .most)
@@ -37,12 +28,4 @@ pub next-spec : {M : Type 1} → statement M
 next-spec =
     tie.close
     (tie.spec
-    next-at-requires
-    next-at-requires-2
-    add-result
-    next-at-requires-3
-    add-result-2
-    returns
-    returns-2
-    returns-3
-    returns-4)
+    (λ c κs. search needs) (λ c κs. search needs) add-result (λ c κs. search needs) add-result-2 returns returns-2 returns-3 returns-4)

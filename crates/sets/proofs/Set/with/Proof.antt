@@ -8,12 +8,6 @@ use Rattle.sets.proofs.SetNumbers.{in-low, in-high}
 use Rattle.sets.proofs.Set.with.Statement.{statement}
 use Rattle.sets.proofs.Set.with.Tie as tie
 
-only-requires : tie.Need-only-requires
-only-requires c κs = search needs
-
-only-requires-2 : tie.Need-only-requires-2
-only-requires-2 c κs = search needs
-
 returns : tie.Need-returns
 returns c =
     let s = c .before .before .before .args .self in
@@ -27,4 +21,4 @@ returns-2 c =
     in-high (λ x y. x || y) or-false s (c .before .before .before .args .i) m (bitOr (s .high) m) (c .before .before .if1 .left) (c .before .only2 .ensures) (bit-or (s .high) m)
 
 pub with-spec : {M : Type 1} → statement M
-with-spec = tie.close (tie.spec only-requires only-requires-2 returns returns-2)
+with-spec = tie.close (tie.spec (λ c κs. search needs) (λ c κs. search needs) returns returns-2)

@@ -8,12 +8,6 @@ use Rattle.sets.proofs.SetNumbers.{in-low, in-high}
 use Rattle.sets.proofs.Set.without.Statement.{statement}
 use Rattle.sets.proofs.Set.without.Tie as tie
 
-only-requires : tie.Need-only-requires
-only-requires c κs = search needs
-
-only-requires-2 : tie.Need-only-requires-2
-only-requires-2 c κs = search needs
-
 returns : tie.Need-returns
 returns c =
     let s = c .before .before .before .args .self in
@@ -27,4 +21,4 @@ returns-2 c =
     in-high (λ x y. x && not y) and-true s (c .before .before .before .args .i) m (bitXor (bitOr (s .high) m) m) (c .before .before .if1 .left) (c .before .only2 .ensures) (bit-but (s .high) m)
 
 pub without-spec : {M : Type 1} → statement M
-without-spec = tie.close (tie.spec only-requires only-requires-2 returns returns-2)
+without-spec = tie.close (tie.spec (λ c κs. search needs) (λ c κs. search needs) returns returns-2)

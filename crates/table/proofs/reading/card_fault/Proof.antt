@@ -6,9 +6,6 @@ use Rattle.table.specs.Reading.{cardFault}
 use Rattle.table.proofs.reading.card_fault.Statement.{statement}
 use Rattle.table.proofs.reading.card_fault.Tie as tie
 
-card-at-requires : tie.Need-card-at-requires
-card-at-requires c κs = search needs
-
 returns : tie.Need-returns
 unfolding cardFault
 returns c = simp (sym (c .before .before .before .pre .1) ∙ c .if1 .taken, c .before .card-at .ensures .0)
@@ -18,4 +15,4 @@ unfolding cardFault
 returns-2 c = simp (sym (c .before .before .before .pre .1) ∙ c .if1 .left, c .before .card-at .ensures .0)
 
 pub card-fault-spec : {M : Type 1} → statement M
-card-fault-spec = tie.close (tie.spec card-at-requires returns returns-2)
+card-fault-spec = tie.close (tie.spec (λ c κs. search needs) returns returns-2)

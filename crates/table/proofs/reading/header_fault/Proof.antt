@@ -2,13 +2,10 @@
 -- Assumes nothing.
 use mathlib.Core.Path.{sym, _∙_}
 use borrow.Author.Needs.{needs}
-use Rattle.table.specs.Reading.{headerFault}
+use Rattle.answer.specs.Refusals.{settled}
 use Rattle.table.proofs.Faults.{length-passed}
 use Rattle.table.proofs.reading.header_fault.Statement.{statement}
 use Rattle.table.proofs.reading.header_fault.Tie as tie
-
-length-fault-requires : tie.Need-length-fault-requires
-length-fault-requires c κs = search needs
 
 version-fault-requires : tie.Need-version-fault-requires
 version-fault-requires c κs = length-passed (c .before .before .before .args .table .now) (sym (c .before .length-fault .ensures) ∙ c .if1 .left)
@@ -17,21 +14,21 @@ count-fault-requires : tie.Need-count-fault-requires
 count-fault-requires c κs = length-passed (c .before .before .before .before .before .args .table .now) (sym (c .before .before .before .length-fault .ensures) ∙ c .before .before .if1 .left)
 
 returns : tie.Need-returns
-unfolding headerFault
+unfolding settled
 returns c = simp (sym (c .before .length-fault .ensures) ∙ c .if1 .taken)
 
 returns-2 : tie.Need-returns-2
-unfolding headerFault
+unfolding settled
 returns-2 c = simp (sym (c .before .before .before .length-fault .ensures) ∙ c .before .before .if1 .left, sym (c .before .version-fault .ensures) ∙ c .if2 .taken)
 
 returns-3 : tie.Need-returns-3
-unfolding headerFault
+unfolding settled
 returns-3 c =
     simp
     (sym (c .before .before .before .before .before .length-fault .ensures) ∙ c .before .before .before .before .if1 .left, sym (c .before .before .before .version-fault .ensures) ∙ c .before .before .if2 .left, sym (c .before .count-fault .ensures) ∙ c .if3 .taken)
 
 returns-4 : tie.Need-returns-4
-unfolding headerFault
+unfolding settled
 returns-4 c =
     simp
     (sym (c .before .before .before .before .before .length-fault .ensures) ∙ c .before .before .before .before .if1 .left, sym (c .before .before .before .version-fault .ensures) ∙ c .before .before .if2 .left, sym (c .before .count-fault .ensures) ∙ c .if3 .left)
@@ -40,10 +37,4 @@ pub header-fault-spec : {M : Type 1} → statement M
 header-fault-spec =
     tie.close
     (tie.spec
-    length-fault-requires
-    version-fault-requires
-    count-fault-requires
-    returns
-    returns-2
-    returns-3
-    returns-4)
+    (λ c κs. search needs) version-fault-requires count-fault-requires returns returns-2 returns-3 returns-4)

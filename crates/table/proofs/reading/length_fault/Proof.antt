@@ -1,24 +1,23 @@
 -- `table::reading::length_fault` meets its contract: each branch gives refusal 1's test.
 -- Assumes nothing.
+use native.Mathlib.Omega.{arith}
 use borrow.Author.Needs.{needs}
+use Rattle.table.proofs.Places.{header-places}
 use Rattle.table.proofs.Faults.{length-short, length-other}
 use Rattle.table.proofs.reading.length_fault.Statement.{statement}
 use Rattle.table.proofs.reading.length_fault.Tie as tie
 
 word-at-requires : tie.Need-word-at-requires
-word-at-requires c κs = search needs
-
-cast-result : tie.Need-cast-result
-cast-result c = search needs
-
-add-result : tie.Need-add-result
-add-result c = search needs
+word-at-requires c κs = omega (arith, header-places (c .before .before .before .args .table .now) (omega arith))
 
 returns : tie.Need-returns
-returns c = length-short (c .before .before .args .table .now) (c .if1 .taken)
+returns c = length-short (c .before .before .before .args .table .now) (omega arith)
 
 returns-2 : tie.Need-returns-2
-returns-2 c = length-other (c .before .before .before .args .table .now) (c .word-at .result) (c .word-at .ensures .0) (c .before .if1 .left)
+returns-2 c = length-other (c .before .before .before .before .args .table .now) (c .word-at .result) (c .word-at .ensures .0) (omega arith)
 
 pub length-fault-spec : {M : Type 1} → statement M
-length-fault-spec = tie.close (tie.spec word-at-requires cast-result add-result returns returns-2)
+length-fault-spec =
+    tie.close
+    (tie.spec
+    (λ c κs. search needs) word-at-requires (λ c. search needs) (λ c. search needs) returns returns-2)

@@ -9,9 +9,6 @@ use Rattle.table.proofs.Faults.{fault-later, fault-kind}
 use Rattle.table.proofs.reading.node_fault.Statement.{statement}
 use Rattle.table.proofs.reading.node_fault.Tie as tie
 
-kind-at-requires : tie.Need-kind-at-requires
-kind-at-requires c κs = search needs
-
 fault-of-requires : tie.Need-fault-of-requires
 fault-of-requires c κs =
     let s = c .before .before .before .args in
@@ -39,5 +36,4 @@ returns-3 c =
 
 pub node-fault-spec : {M : Type 1} → statement M
 node-fault-spec =
-    tie.close
-    (tie.spec kind-at-requires fault-of-requires fault-of-requires-2 returns returns-2 returns-3)
+    tie.close (tie.spec (λ c κs. search needs) fault-of-requires fault-of-requires-2 returns returns-2 returns-3)

@@ -1,18 +1,13 @@
 -- `table::reading::range_fault` meets its contract: each branch gives refusal 7's test in the field.
 -- Assumes nothing.
 use borrow.Author.Needs.{needs}
+use Rattle.table.proofs.Places.{node-header}
 use Rattle.table.proofs.Faults.{range-low, range-high}
 use Rattle.table.proofs.reading.range_fault.Statement.{statement}
 use Rattle.table.proofs.reading.range_fault.Tie as tie
 
-high-at-requires : tie.Need-high-at-requires
-high-at-requires c κs = search needs
-
-low-at-requires : tie.Need-low-at-requires
-low-at-requires c κs = search needs
-
 maximum-at-requires : tie.Need-maximum-at-requires
-maximum-at-requires c κs = search needs
+maximum-at-requires c κs = (node-header (c .before .before .before .before .args .table .now) (c .before .before .before .before .args .i) (c .before .before .before .before .pre .0), c .before .before .before .before .pre .1)
 
 returns : tie.Need-returns
 returns c =
@@ -27,4 +22,4 @@ returns-2 c =
 
 pub range-fault-spec : {M : Type 1} → statement M
 range-fault-spec =
-    tie.close (tie.spec high-at-requires low-at-requires maximum-at-requires returns returns-2)
+    tie.close (tie.spec (λ c κs. search needs) (λ c κs. search needs) maximum-at-requires returns returns-2)

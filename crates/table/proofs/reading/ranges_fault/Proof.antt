@@ -20,20 +20,11 @@ abbrev μ-loop : tie.MeasureT-loop
 loop-holds : tie.Need-loop-holds Inv-loop μ-loop
 loop-holds c = (omega arith, refl)
 
-range-fault-requires : tie.Need-range-fault-requires Inv-loop μ-loop
-range-fault-requires c κs = search needs
-
 returns : tie.Need-returns Inv-loop μ-loop
 unfolding rangesFault
 returns c =
     let s = c .before .before .before .before .before .args in
     sym (some-true (rangeFault (s .table .now) (s .i)) fields (c .before .before .before .loop .field) (c .before .before .loop-test .taken) (sym (c .before .range-fault .ensures) ∙ c .if1 .taken))
-
-add-field : tie.Need-add-field Inv-loop μ-loop
-add-field c = search needs
-
-loop-less : tie.Need-loop-less Inv-loop μ-loop
-loop-less c = search needs
 
 loop-again : tie.Need-loop-again Inv-loop μ-loop
 loop-again c =
@@ -51,12 +42,4 @@ pub ranges-fault-spec : {M : Type 1} → statement M
 ranges-fault-spec =
     tie.close
     (tie.spec
-    Inv-loop
-    μ-loop
-    loop-holds
-    range-fault-requires
-    returns
-    add-field
-    loop-less
-    loop-again
-    returns-2)
+    Inv-loop μ-loop loop-holds (λ c κs. search needs) returns (λ c. search needs) (λ c. search needs) loop-again returns-2)

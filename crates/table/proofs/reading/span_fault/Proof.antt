@@ -3,18 +3,13 @@
 use native.Mathlib.Omega.{arith}
 use native.Mathlib.Nat.{pos-of-ne-zero}
 use borrow.Author.Needs.{needs}
+use Rattle.table.proofs.Places.{number-small}
 use Rattle.table.proofs.Faults.{span-odd, span-root, span-child}
 use Rattle.table.proofs.reading.span_fault.Statement.{statement}
 use Rattle.table.proofs.reading.span_fault.Tie as tie
 
-span-at-requires : tie.Need-span-at-requires
-span-at-requires c κs = search needs
-
-odd-span-requires : tie.Need-odd-span-requires
-odd-span-requires c κs = search needs
-
 add-result : tie.Need-add-result
-add-result c = omega (arith, c .before .before .before .before .before .pre, c .before .before .before .span-at .ensures .1)
+add-result c = omega (arith, number-small (c .before .before .before .before .before .args .table .now) (c .before .before .before .before .before .args .i) (c .before .before .before .before .before .pre .0), c .before .before .before .span-at .ensures .1)
 
 returns : tie.Need-returns
 returns c =
@@ -36,4 +31,4 @@ returns-3 c =
 
 pub span-fault-spec : {M : Type 1} → statement M
 span-fault-spec =
-    tie.close (tie.spec span-at-requires odd-span-requires add-result returns returns-2 returns-3)
+    tie.close (tie.spec (λ c κs. search needs) (λ c κs. search needs) add-result returns returns-2 returns-3)

@@ -1,13 +1,14 @@
 -- `table::reading::version_fault` meets its contract: the byte compared is the version.
 -- Assumes nothing.
 use mathlib.Core.Path.{refl}
-use borrow.Author.Needs.{needs}
+use native.Mathlib.Omega.{arith}
 use Rattle.table.specs.Reading.{versionFault}
+use Rattle.table.proofs.Places.{header-places}
 use Rattle.table.proofs.reading.version_fault.Statement.{statement}
 use Rattle.table.proofs.reading.version_fault.Tie as tie
 
 shared-slice-read-result : tie.Need-shared-slice-read-result
-shared-slice-read-result c = search needs
+shared-slice-read-result c = omega (arith, header-places (c .before .args .table .now) (c .before .pre))
 
 returns : tie.Need-returns
 unfolding versionFault

@@ -1,0 +1,34 @@
+-- A group's running decision: what it can be, how it starts, and what taking in a child asks for and leaves.
+-- Assumes nothing: these are definitions.
+use mathlib.Core.Path.{_≡_}
+use mathlib.Core.List.{[], _∷_}
+use Prim.Native.Nat.{ℕ, _<_}
+use Rattle.combining.specs.Ways.{notApplicable, Child, heard, way, step}
+use Rattle.combining.specs.declared.Running.{Running}
+
+-- a running decision beside the child that is taken in
+abbrev pub soFar : Running → Child
+soFar r = heard (r .decision)
+
+-- A running decision that a group can have: one of the four, and what the group's way gives of it alone.
+pub record Reachable (r : Running) : Type 0 where
+  pub group : r .kind < 4
+  pub one-of-four : r .decision < 4
+  pub alone : way (r .kind) (soFar r ∷ []) ≡ r .decision
+
+-- "A running decision starts at none": that of a group of a kind
+pub record Started (kind : ℕ) (r : Running) : Type 0 where
+  pub same-kind : r .kind ≡ kind
+  pub none : r .decision ≡ notApplicable
+  pub reachable : Reachable r
+
+-- "indexed by group kind, running decision and child decision (0 to 3 each)": a child of this decision can be taken in
+pub record Takes (r : Running) (child : ℕ) : Type 0 where
+  pub reachable : Reachable r
+  pub one-of-four : child < 4
+
+-- "takes in one child after another": with one child more
+pub record Taken (r : Running) (child : ℕ) (next : Running) : Type 0 where
+  pub same-kind : next .kind ≡ r .kind
+  pub combined : next .decision ≡ step (r .kind) (soFar r) (heard child)
+  pub reachable : Reachable next
