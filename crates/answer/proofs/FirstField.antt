@@ -24,7 +24,7 @@ module _ (p : ℕ → Bool) where
       let z : i + 1 + k ≡ i + suc k = omega arith in
       first-more i k false (h i (omega arith) (omega arith)) ∙ first-none k (i + 1) (λ j l r. h j (omega arith) (omega arith)) ∙ z
 
-  -- it is no earlier than the first asked, and none before it passes
+  -- the number found is no earlier than the first asked, and none before it passes
   pub first-least : (k i : ℕ) → (i ≤ firstFrom p i k) × ((j : ℕ) → i ≤ j → j < firstFrom p i k → p j ≡ false)
   first-least zero i = (omega arith, λ j l r. absurd (omega arith))
   first-least (suc k) i = by (p i) refl (first-least k (i + 1))

@@ -44,7 +44,7 @@ module _ (maximum : ℕ → ℕ) (q : List ℕ) where
     short w l =
         first-after (valueRefusals maximum q 0) (listRefusal r n ∷ []) (values-pass 0 (omega arith) w) (here (lt-ltb n (length (r .cards)) l))
 
-    -- neither, exactly where the request is within the maxima and the list is long enough
+    -- neither 9 nor 10 applies, exactly where the request is within the maxima and the list is long enough
 
     pub within-none : Within maximum q → length (r .cards) ≤ n → None (requestRefusals maximum q r n)
     within-none w l =

@@ -82,7 +82,7 @@ module _ (t : List ℕ) (f v : ℕ) where
             (eq-or-lt-of-le m))
             (lt-or-ge j i)
 
-    -- it fails: the node is passed over with all nodes under it
+    -- the range of node i fails: it is passed over with all nodes under it
     pub nodes-out : (s : Set) (n : ℕ) → rangeHolds t f v i ≡ false → n ≡ endOf t i → MembersBelow s i → MembersBelow s n
     nodes-out s n e z w =
         rw z

@@ -51,7 +51,7 @@ module _ (t : List ℕ) (f : ℕ) (row : List (List ℕ)) where
   pub all-values : (v m : ℕ) → m ≡ maximum t f → m < v → ValuesBelow t f row v → ValuesFilled t f row
   all-values v m e l w = record { long = w .long; sets = λ u lu. w .sets u (omega arith); alone = λ u lu. w .alone u (omega arith) }
 
-  -- the same sets with runs marked
+  -- the sets of a field's values, with their runs marked
   pub with-runs : (m : ℕ) (marked : List (List ℕ)) → m ≡ maximum t f → length marked ≡ 256 → ((v : ℕ) → setAt marked v ≡ setAt row v) → Runs m marked → ValuesFilled t f row → FieldFilled t f marked
   with-runs m marked e l k r w =
       record {

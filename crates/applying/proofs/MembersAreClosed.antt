@@ -24,7 +24,7 @@ module _ (t : List ℕ) where
       (throughout-down t (rangeHolds t f v) w i j l a b (sym (ap (λ x. x && appliesIn t f v i) (lt-ltb i (count t) l)) ∙ e))
       ∙ and-false (ltb j (count t))
 
-  -- those of two closed sets
+  -- what two closed sets have in common is closed
   pub meet-closed : (a b : ℕ → Bool) → Closed t a → Closed t b → Closed t (λ i. a i && b i)
   meet-closed a b ca cb i j l m n e = by (a i) refl e
     where

@@ -27,7 +27,7 @@ module _ (t : List ℕ) (n : ℕ) where
   abbrev pub TooLarge : Type 0
   TooLarge = (mostPlaces < length (diagramOf t)) ⊎ (n < length (diagramOf t))
 
-  -- it needs no more than either
+  -- the built diagram needs no more than 32,768 places, and no more than are lent
   abbrev pub Fits : Type 0
   Fits = (length (diagramOf t) ≤ mostPlaces) × (length (diagramOf t) ≤ n)
 
@@ -78,7 +78,7 @@ module _ (t : List ℕ) (n : ℕ) where
   pub accepted-built : Accepted t → Fits → (built t n ≡ counted (length (diagramOf t))) × (builtDiagram t n ≡ padded (diagramOf t) n)
   accepted-built c h = answers refused (zeros n) given (padded (diagramOf t) n) (buildRefusals t n) .succeeds (none c h)
 
-  -- and nothing else is
+  -- a build succeeds exactly where the table is accepted and its diagram fits
   pub succeeds-exactly : (built t n .number ≡ 0) ↔ (Accepted t × Fits)
   succeeds-exactly = (
     λ z.

@@ -77,7 +77,7 @@ value-run sets field {v} {nodes} own full l more is meets ends far =
     }
 
 module _ {t : List ℕ} {nodes : Set} {field v until : ℕ} {here : Set} (r : ValueRun t nodes field v until here) where
-  -- it lies within the maximum
+  -- a run lies within the field's maximum
   pub run-within : until ≤ maximum t field
   run-within = r .alike until (r .far) (omega arith) .0
 
@@ -100,7 +100,7 @@ module _ {t : List ℕ} {nodes : Set} {field v until : ℕ} {here : Set} (r : Va
       Walks (underValue (levelBy t field (has nodes)) v) Given Right n d index full end place
   walks-value w = walks-as w walk-value
 
-  -- it is the next value's neighbour
+  -- the child of a run is the neighbour of the next value
   pub value-near : (place : ℕ) (xs : Entries) → place ≡ underValue (levelBy t field (has nodes)) v xs .place →
       Near t (field + 1) (record { nodes = here; place = place }) (underValue (levelBy t field (has nodes)) v xs .entries)
   value-near place xs =

@@ -68,7 +68,7 @@ module _ (t : List ℕ) (field : ℕ) (nodes : Set) (near : Known) (seen : List 
       walks-known (drop field (maxima t)) (rulingFrom t field (has nodes)) room small
       (λ es r. (recalled t seen es slot nodes field place (r .0) (holds there) there, r .0))
 
-  -- it was walked
+  -- what was not remembered was walked
   module _ (seen′ : List (List ℕ)) {d′ index′ : List ℕ} {full : Bool} {end place : ℕ}
       (w : Walks (walkBy t field (has nodes)) (Held (Remembers t seen) d index start) (Remembers t seen′) n d′ index′ full end place) where
     -- nothing more is remembered

@@ -52,7 +52,7 @@ module _ (t : List ℕ) (w : WellFormed t) (nodes : Set) (all : Has nodes (λ i.
   all-in : (i : ℕ) → i < count t → has nodes i ≡ true
   all-in i l = all i ∙ lt-ltb i most (omega (arith, w .few))
 
-  -- so the walk is that of what the groups give
+  -- where every node is possible, the walk is that of what the groups give
   walk-is : (es : Entries) → walkBy t 0 (has nodes) es ≡ walkAll t es
   walk-is es =
       walk-goes-by-rulings-within fields (maxima t) (rulingFrom t 0 (has nodes)) (groups t) es

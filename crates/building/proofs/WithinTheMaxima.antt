@@ -13,7 +13,7 @@ use Rattle.table.proofs.Maxima.{maxima-length, maxima-each}
 use Rattle.diagram.specs.Walk.{WithinMaxima}
 use Rattle.diagram.proofs.WithinAsWalked.{within-length, within-each, each-within}
 
--- both ways
+-- within the fields, and so within the list of maxima, and the other way round
 pub within-maxima : (t q : List ℕ) → ((length q ≡ fields) × Within (maximum t) q) ↔ WithinMaxima (maxima t) q
 within-maxima t q =
     let all : length (maxima t) ≡ fields = maxima-length t in (

@@ -34,7 +34,7 @@ module _ (t : List ℕ) (a : ℕ → Bool) (list stored : List ℕ) (decision co
       let cs : take count stored ≡ meaning a t .cards = start-is list (meaning a t .cards) stored count es ec (omega (arith, few-cards a t w)) in
       ap (λ n. record { decision = n; cards = take count stored }) ed ∙ ap (λ ns. record { decision = meaning a t .decision; cards = ns }) cs
 
-  -- so what was entered for it was entered for them
+  -- what was entered for the one ruling was entered for the other, which is the same
   pub ruling-entered : (d index d′ index′ : List ℕ) (start : ℕ) (full : Bool) (end place : ℕ) →
       ((es : Entries) → Laid es d index start →
       Standing (enter (diagram.header fields) es (terminal (record { decision = decision; cards = take count stored }))) (length d) d′ index′ full end place) →

@@ -39,7 +39,7 @@ pair cs k r d hk hr hd =
 pub not-applicable-first : (k : ℕ) (cs : List Child) → k < 4 → way k (heard notApplicable ∷ cs) ≡ way k cs
 not-applicable-first k cs h = pick 4 (λ k. way k (heard notApplicable ∷ cs) ≡ way k cs) (search) k h
 
--- nor after a running decision
+-- a child that is not applicable changes nothing, after a running decision
 pub not-applicable-next : (k r : ℕ) (cs : List Child) → k < 4 → r < 4 → way k (heard r ∷ heard notApplicable ∷ cs) ≡ way k (heard r ∷ cs)
 not-applicable-next k r cs hk hr = pick 4 (Next k) (pick 4 (λ k. Each 4 (Next k)) (search depth 16) k hk) r hr
   where

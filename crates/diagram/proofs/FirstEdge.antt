@@ -40,7 +40,7 @@ module _ (d : List ℕ) (p v : ℕ) where
       (λ n. omega (arith, n))
       (lt? j (edge d p v))
 
-  -- it is where a search stops that passes only edges that end below the value, and stops at one that does not or at the end
+  -- the edge of a value is where a search stops that passes only edges that end below the value, and stops at one that does not or at the end
   pub edge-is : (j : ℕ) → j ≤ edgesAt d p → ((i : ℕ) → i < j → lastAt d p i < v) → (j < edgesAt d p → v ≤ lastAt d p j) → edge d p v ≡ j
   edge-is j most before stops =
       ⊎-elim

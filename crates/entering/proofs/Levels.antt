@@ -57,7 +57,7 @@ module _ (l : Level) (es : Entries) where
   abbrev places : ℕ → ℕ
   places v = length (joined (opened l es v .entries))
 
-  -- later values only add to them
+  -- later values only add to the places that the entries take
   places-grow : (v k w : ℕ) → w ≡ k + v → places v ≤ places w
   unfolding below
   places-grow v zero w e = let z : v ≡ w = omega arith in omega (arith, ap places z)

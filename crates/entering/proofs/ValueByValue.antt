@@ -51,7 +51,7 @@ module _ (rows : List (List ℕ)) (field : ℕ) (row : List ℕ) (r : EdgeRows r
             (either (eqb f field));
       }
 
--- the same rows, as they were
+-- rows that are as they were are kept
 
 pub kept-itself : (field : ℕ) {rows : List (List ℕ)} → EdgeRows rows → EdgesKept field rows rows
 kept-itself field r = record { rows = r; above = λ f i. refl }
@@ -64,7 +64,7 @@ module _ (field : ℕ) {before now later : List (List ℕ)} (a : EdgesKept field
   pub kept-on : EdgesKept field before later
   kept-on = record { rows = b .rows; above = λ f i. b .above f (omega arith) ∙ a .above f i }
 
-  -- and where the field's own row is then written over
+  -- the rows before a field's are kept where its own row is written over
   kept-set : (row : List ℕ) → field < fields → length row ≡ length (getD later field []) → EdgesKept field before (set later field row)
   kept-set row l same =
       record {
@@ -160,7 +160,7 @@ module _ {level : Level} {Given Right : Entries → Type 0} {n : ℕ} {last₀ c
               subst (λ c. Leaving Right′ (walkLevel level es) n d′ index′ c end place) (sym f) over;
         }
 
-    -- it stands, with all values of its run, and is among the open edges
+    -- what is under a value stands, and with all values of its run is among the open edges
     pub value-next : {Right″ : Entries → Type 0} (until : ℕ) → v ≤ until →
         ((u : ℕ) → v ≤ u → u ≤ until → (u ≤ level .most) × Alike (level .later) (given (level .rulings) u) (given (level .rulings) v)) →
         full ≡ false → length d′ ≡ length d → {last₁ child₁ : List (List ℕ)} →

@@ -30,7 +30,7 @@ module _ (ms : List ℕ) (f : List ℕ → Ruling) where
   pub walked-stays : (es : Entries) → Stays ms f (walk fields ms f es .entries) (walk fields ms f es .place)
   walked-stays es = let xs = walk fields ms f es .entries in walking-again-adds-nothing fields ms f es xs (begins-itself xs)
 
-  -- so it does as more entries follow
+  -- a walk that adds nothing adds nothing as more entries follow
   pub stays-on : (p : ℕ) → Grows (λ es. Stays ms f es p)
   stays-on p es ys b s =
       walking-again-adds-nothing fields ms f es ys (subst (λ xs. Begins xs ys) (sym (ap (λ x. x .entries) s)) b)
@@ -47,7 +47,7 @@ module _ {A : Type 0} (none : A) (Right : ℕ → A → Entries → Type 0) wher
       subst (λ y. Right s y es) (sym (List·getD-eq-default (replicate n x) none {n = s} (omega (arith, length-replicate {A = A} n x)))) (past s))
       (lt-or-ge s n)
 
-  -- it stays right as more entries follow
+  -- what is remembered stays right as more entries follow
   pub remembered-on : ((s : ℕ) (x : A) → Grows (Right s x)) → (slots : List A) → Grows (Remembered none Right slots)
   remembered-on on slots es ys b r s = on s (getD slots s none) es ys b (r s)
 
@@ -69,7 +69,7 @@ module _ {A : Type 0} (none : A) (Right : ℕ → A → Entries → Type 0) wher
 
 -- The ways through a walk that is done once.
 module _ {n : ℕ} {d index : List ℕ} {end place : ℕ} where
-  -- it is remembered: nothing was written
+  -- a walk that is remembered: nothing was written
   pub walks-known : {Right Right′ : Entries → Type 0} (ms : List ℕ) (f : List ℕ → Ruling) → Room n end → place < mostPlaces →
       ((es : Entries) → Right es → Stays ms f es place × Right′ es) → Walks (walk fields ms f) (Held Right d index end) Right′ n d index false end place
   walks-known {Right′} ms f room small known =
@@ -82,11 +82,11 @@ module _ {n : ℕ} {d index : List ℕ} {end place : ℕ} where
       }
 
   module _ {walked : Entries → Entered} {Given Right : Entries → Type 0} {full : Bool} (w : Walks walked Given Right n d index full end place) where
-    -- it was walked, from entries of which more was given
+    -- a walk from entries of which more was given
     pub walks-from : {Given′ : Entries → Type 0} → ((es : Entries) → Given′ es → Given es) → Walks walked Given′ Right n d index full end place
     walks-from given = record { room = w .room; place-small = w .place-small; outcome = λ es g. w .outcome es (given es g) }
 
-    -- the same walk, in other words
+    -- a walk that gives the same from every list of entries
     pub walks-as : {walked′ : Entries → Entered} → ((es : Entries) → walked es ≡ walked′ es) → Walks walked′ Given Right n d index full end place
     walks-as same =
         record {
@@ -95,7 +95,7 @@ module _ {n : ℕ} {d index : List ℕ} {end place : ℕ} where
           outcome = λ es g. subst (λ x. Leaving Right x n d index full end place) (same es) (w .outcome es g);
         }
 
-    -- it was walked, and more is remembered of it
+    -- a walk of which more is remembered once it is done
     pub walks-new : {Right′ : Entries → Type 0} →
         ((es : Entries) → place ≡ walked es .place → Right (walked es .entries) → Right′ (walked es .entries)) →
         Walks walked Given Right′ n d index full end place

@@ -37,7 +37,7 @@ module _ (t q : List ℕ) where
   unfolding applies
   applies-above = pass-down t (targetHolds t q)
 
-  -- and where it holds above a node, so it does above the node after all under it
+  -- where the targets above a node hold, so do those above the node after all under it
   pub above-after : WellFormed t → (i s : ℕ) → i < count t → s ≡ span t i → HoldAbove t (targetHolds t q) i → HoldAbove t (targetHolds t q) (i + s)
   above-after w i s l e h = rw e (pass-after t (targetHolds t q) i w l h)
 

@@ -75,6 +75,6 @@ module _ (a : ℕ → Bool) (t : List ℕ) where
           (eq-or-lt-of-le (omega (arith, matching-more n true e)))
       by false e earlier = later (earlier (omega (arith, matching-more n false e)))
 
-  -- and nothing else is listed
+  -- nothing is listed but the cards of matching rules
   pub nothing-else : (k : ℕ) → k < length (cards a t) → Origin a t (count t) k
   nothing-else k l = origin (count t) k (omega (arith, number-of-cards))

@@ -100,7 +100,7 @@ module _ (a : ℕ → Bool) (t : List ℕ) where
       first : {d : ℕ} → d ≡ decision a t i → over r i end ≡ way (r .kind) (soFar r ∷ childOf a i d ∷ children a t (run t next end))
       first e = rw (run-more t w i end o l, en, e)
 
-      -- it is taken in
+      -- the first child is taken in
       pub over-more : {d : ℕ} {r' : Running} → d ≡ decision a t i → Taken r d r' → over r i end ≡ over r' next end
       over-more {d} e k =
           first e
@@ -108,7 +108,7 @@ module _ (a : ℕ → Bool) (t : List ℕ) where
           (rw (k .combined, k .same-kind)
           (pair (children a t (run t next end)) (r .kind) (r .decision) d (h .group) (h .one-of-four) (rw e (decision-below i))))
 
-      -- it does not apply, and changes nothing
+      -- the first child does not apply, and changes nothing
       pub over-skip : a i ≡ false → over r i end ≡ over r next end
       over-skip e =
           first (ruled-not i e) ∙ not-applicable-next (r .kind) (r .decision) (children a t (run t next end)) (h .group) (h .one-of-four)

@@ -33,7 +33,7 @@ module _ (t : List ℕ) (h : ℕ → Bool) where
   passes-over : (i j : ℕ) → i < endOf t j → passes t h i j ≡ h j
   passes-over i j r = passes-by i j true (lt-ltb i (endOf t j) r)
 
-  -- it does throughout exactly where it passes at each node that reaches over node i
+  -- a test passes throughout exactly where it passes at each node that reaches over node i
 
   pub throughout-where : (i : ℕ) → ((j : ℕ) → j ≤ i → i < endOf t j → h j ≡ true) → throughout t h i ≡ true
   throughout-where i a = every-true (passes t h i) (suc i) each

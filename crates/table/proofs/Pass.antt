@@ -113,7 +113,7 @@ module _ (t : List ℕ) (n : ℕ) where
         refused f i ≡ reading t
     stopped i f h s l e ne = node-refused t h i f (omega (arith, s .whole)) (s .before) e ne
 
-    -- so does the last node
+    -- after the last node the reading ends with the count
     pub finished : (i : ℕ) → None (headerRefusals t) → Passed ends depth i → n ≤ i → counted n ≡ reading t
     finished i h s l =
         ap counted (s .whole)

@@ -123,7 +123,7 @@ module _ (t : List ℕ) where
   above-level itself = omega arith
   above-level (further {i = i} l u) = omega (arith, above-level u, level-child i l)
 
-  -- and stands no later
+  -- a node above another stands no later
   pub above-earlier : {i j : ℕ} → Above t i j → j ≤ i
   above-earlier itself = omega arith
   above-earlier (further {i = i} l u) = omega (arith, above-earlier u, parent-below i l)

@@ -66,12 +66,12 @@ cardFault t i = cond (isRule t i) (eqb (card t i) 0) (not (eqb (card t i) 0))
 abbrev pub headerRefusals : List ℕ → List Refusal
 headerRefusals t = row 1 0 (lengthFault t) ∷ row 2 0 (versionFault t) ∷ row 3 0 (countFault t) ∷ []
 
--- "lowest number first within a node": those of node i after 4
+-- "lowest number first within a node": the refusals of node i after 4
 abbrev pub refusalsAfterKind : List ℕ → ℕ → List Refusal
 refusalsAfterKind t i =
     row 5 i (spanFault t i) ∷ row 6 i (levelFault t i) ∷ row 7 i (rangesFault t i) ∷ row 8 i (cardFault t i) ∷ []
 
--- "lowest number first within a node": those of node i
+-- "lowest number first within a node": the refusals of node i
 abbrev pub nodeRefusals : List ℕ → ℕ → List Refusal
 nodeRefusals t i = row 4 i (kindFault t i) ∷ refusalsAfterKind t i
 
