@@ -72,10 +72,9 @@ std::vector<Binary> measure_binary(binary::Package &package, const Table &table,
     if (by_terminals) {
         build_terminals();
     }
-    Numbers list(KOLFSEIN_MOST_CARDS);
     for (const auto &request : table.requests()) {
-        const kolfsein_answer answer = ask(plain::rule, table.bytes, request, list);
-        const binary::Ruling ruling(answer.decision, {list.begin(), list.begin() + static_cast<long>(answer.count)});
+        binary::Ruling ruling;
+        ruling.first = plain::decide(parsed, request, [&](uint16_t card) { ruling.second.push_back(card); });
         expect(binary::ruling(parsed, rules, request) == ruling, "a ruling by BuDDy, by rules");
         expect(!by_terminals || binary::ruling(terminals, request) == ruling, "a ruling by BuDDy, by terminals");
     }

@@ -40,7 +40,8 @@ inline void expect(bool holds, const std::string &what) {
 }
 
 inline bool same(const kolfsein_answer &a, const kolfsein_answer &b) {
-    return a.number == b.number && a.decision == b.decision && a.place == b.place && a.count == b.count;
+    return a.number == b.number && a.decision == b.decision && a.place == b.place && a.count == b.count &&
+           a.subjects == b.subjects;
 }
 
 inline bool same(const Numbers &a, const Numbers &b) {
@@ -70,16 +71,12 @@ struct Table {
 
     // Requests within the maxima, the same in every run.
     std::vector<tables::Request> requests() const { return tables::requests(bytes, 4096, 7); }
-};
 
-// A request of which any value may be one over its maximum.
-inline tables::Request any_request(tables::Random &random, const Table &table) {
-    tables::Request request;
-    for (size_t field = 0; field < request.size(); ++field) {
-        request[field] = static_cast<uint16_t>(random.below(table.bytes[3 + field] + 2u));
+    // The same for so many subjects together.
+    std::vector<tables::JointRequest> joint_requests(unsigned subjects) const {
+        return tables::joint_requests(bytes, subjects, 4096, 7);
     }
-    return request;
-}
+};
 
 inline Table example(const std::string &name) {
     std::ifstream file("examples/" + name + ".table", std::ios::binary);
@@ -105,17 +102,20 @@ inline Table flat(unsigned nodes, const Sizes &sizes) {
     return {"flat, any", tables::Generator({nodes, sizes, sizes, 1}).flat()};
 }
 
-// A call of rule or of look_up.
-template <class Call, class Input>
-kolfsein_answer ask(Call call, const Input &input, const tables::Request &request, Numbers &list) {
-    return call(input.data(), input.size(), request[0], request[1], request[2], list.data(), list.size());
+inline kolfsein_answer ask(Rule call, const tables::Bytes &table, const tables::JointRequest &request, Numbers &list) {
+    return call(table.data(), table.size(), request.subjects, request.resource, request.action, list.data(),
+                list.size());
+}
+
+inline kolfsein_answer ask(LookUp call, const Numbers &diagram, const tables::Request &request, Numbers &list) {
+    return call(diagram.data(), diagram.size(), request[0], request[1], request[2], list.data(), list.size());
 }
 
 // One such call for each request, into the same list.
-template <class Call, class Input>
-timing::Subject asking(Call call, const Input &input, const std::vector<tables::Request> &requests, Numbers &list) {
+template <class Call, class Input, class Request>
+timing::Candidate asking(Call call, const Input &input, const std::vector<Request> &requests, Numbers &list) {
     const auto batch = [call, &input, &requests, &list] {
-        for (const tables::Request &request : requests) {
+        for (const Request &request : requests) {
             sink += ask(call, input, request, list).count;
         }
     };
@@ -126,7 +126,7 @@ inline kolfsein_answer build(Build call, const Table &table, Numbers &diagram) {
     return call(table.bytes.data(), table.bytes.size(), diagram.data(), diagram.size());
 }
 
-inline timing::Subject building(Build call, const Table &table, Numbers &diagram) {
+inline timing::Candidate building(Build call, const Table &table, Numbers &diagram) {
     return {[call, &table, &diagram] { sink += build(call, table, diagram).count; }, 1, {}};
 }
 

@@ -1,6 +1,7 @@
 // The inputs: tables and requests from a small generator with fixed seeds, so that every run has the same ones.
 #pragma once
 
+#include <algorithm>
 #include <array>
 #include <cstddef>
 #include <cstdint>
@@ -11,6 +12,12 @@ namespace tables {
 
 using Bytes = std::vector<uint8_t>;
 using Request = std::array<uint16_t, 3>;
+
+// A set of subjects that ask together, subject k as bit k, and a value for each other field.
+struct JointRequest {
+    uint64_t subjects;
+    uint16_t resource, action;
+};
 
 // xorshift64*: the same numbers everywhere.
 class Random {
@@ -136,6 +143,32 @@ inline std::vector<Request> requests(const Bytes &table, size_t count, uint64_t 
         for (unsigned field = 0; field < 3; ++field) {
             request[field] = static_cast<uint16_t>(random.below(table[3 + field] + 1u));
         }
+    }
+    return all;
+}
+
+// How many subjects a set can have that is within a table's maximum.
+inline unsigned most_subjects(const Bytes &table) { return std::min(table[3] + 1u, 64u); }
+
+// So many of the subjects below a bound, at least as large and at most 64.
+inline uint64_t some_subjects(Random &random, unsigned count, unsigned bound) {
+    uint64_t subjects = 0;
+    while (count > 0) {
+        const uint64_t drawn = uint64_t{1} << random.below(bound);
+        count -= (subjects & drawn) == 0;
+        subjects |= drawn;
+    }
+    return subjects;
+}
+
+// Joint requests of so many subjects each, within a table's maxima.
+inline std::vector<JointRequest> joint_requests(const Bytes &table, unsigned subjects, size_t count, uint64_t seed) {
+    Random random(seed);
+    std::vector<JointRequest> all(count);
+    for (JointRequest &request : all) {
+        request.subjects = some_subjects(random, subjects, most_subjects(table));
+        request.resource = static_cast<uint16_t>(random.below(table[4] + 1u));
+        request.action = static_cast<uint16_t>(random.below(table[5] + 1u));
     }
     return all;
 }

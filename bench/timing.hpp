@@ -11,7 +11,7 @@
 namespace timing {
 
 // One of the calls that are compared.
-struct Subject {
+struct Candidate {
     std::function<void()> batch;         // some calls with inputs made beforehand
     size_t calls = 1;                    // how many they are
     std::function<void()> prepare = {};  // before each batch, not timed
@@ -25,19 +25,19 @@ inline double now() {
 }
 
 // The seconds of a batch, on average over some of them.
-inline double average(const Subject &subject, size_t batches) {
+inline double average(const Candidate &candidate, size_t batches) {
     double taken = 0;
-    if (subject.prepare) {
+    if (candidate.prepare) {
         for (size_t i = 0; i < batches; ++i) {
-            subject.prepare();
+            candidate.prepare();
             const double start = now();
-            subject.batch();
+            candidate.batch();
             taken += now() - start;
         }
     } else {
         const double start = now();
         for (size_t i = 0; i < batches; ++i) {
-            subject.batch();
+            candidate.batch();
         }
         taken = now() - start;
     }
@@ -46,31 +46,31 @@ inline double average(const Subject &subject, size_t batches) {
 
 // Nanoseconds per call of each. A first batch warms up, a second says how many make a round of 0.05 s; there are 20
 // rounds, so that a second is measured in all. What takes over a second is measured once.
-inline std::vector<double> nanoseconds(const std::vector<Subject> &subjects) {
+inline std::vector<double> nanoseconds(const std::vector<Candidate> &candidates) {
     constexpr double ROUND = 0.05;
     constexpr int ROUNDS = 20;
     std::vector<double> least;
     std::vector<size_t> batches;
-    for (const Subject &subject : subjects) {
-        double taken = average(subject, 1);
+    for (const Candidate &candidate : candidates) {
+        double taken = average(candidate, 1);
         size_t count = 0;
         if (taken <= 1) {
             const double start = now();
-            taken = average(subject, 1);
+            taken = average(candidate, 1);
             count = static_cast<size_t>(ROUND / (now() - start)) + 1;
         }
         least.push_back(taken);
         batches.push_back(count);
     }
     for (int round = 0; round < ROUNDS; ++round) {
-        for (size_t i = 0; i < subjects.size(); ++i) {
+        for (size_t i = 0; i < candidates.size(); ++i) {
             if (batches[i] > 0) {
-                least[i] = std::min(least[i], average(subjects[i], batches[i]));
+                least[i] = std::min(least[i], average(candidates[i], batches[i]));
             }
         }
     }
-    for (size_t i = 0; i < subjects.size(); ++i) {
-        least[i] *= 1e9 / static_cast<double>(subjects[i].calls);
+    for (size_t i = 0; i < candidates.size(); ++i) {
+        least[i] *= 1e9 / static_cast<double>(candidates[i].calls);
     }
     return least;
 }

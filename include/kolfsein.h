@@ -1,15 +1,17 @@
 /*
- * Kolfsein, a verified policy engine: reading a table of rules, ruling on a request by its groups, building its
- * decision diagram, and ruling by a diagram.
+ * Kolfsein, a verified policy engine: reading a table of rules, ruling by its groups on one subject or on several that
+ * ask together, building its decision diagram, and ruling by a diagram.
  * For C99 and C++. Link libkolfsein.a, which itself needs only C's memcpy and memset. The repository's docs/FORMAT.md
  * describes the formats.
  *
  * Which call when:
- * - kolfsein_rule where the table is at hand. It reads the table itself, and needs no kolfsein_read before it.
+ * - kolfsein_rule where the table is at hand, for one subject or for several that ask together. It reads the table
+ *   itself, and needs no kolfsein_read before it.
  * - kolfsein_read to see whether a table is accepted, and which node is at fault where it is not.
- * - kolfsein_build to see whether two tables rule alike, or to hand on what a table rules in its place.
- * - kolfsein_look_up where a diagram is at hand and no table. Each call checks the whole diagram, so it takes longer
- *   than kolfsein_rule unless the diagram is small for its table; docs/PERFORMANCE.md has the figures.
+ * - kolfsein_build to see whether two tables rule alike on every subject alone, or to hand on these rulings in place of
+ *   the table.
+ * - kolfsein_look_up where a diagram is at hand and no table, for one subject. Each call checks the whole diagram, so
+ *   it takes longer than kolfsein_rule unless the diagram is small for its table; docs/PERFORMANCE.md has the figures.
  *
  * Every call takes any bytes, any numbers and any values and ends. It allocates nothing, keeps nothing between calls,
  * and reads and writes only what it is lent. The caller sees to this:
@@ -49,10 +51,11 @@ enum {
     KOLFSEIN_RANGE = 7,           /* a low over its high, or a high over the maximum; place: the node */
     KOLFSEIN_CARD = 8,            /* a rule with card 0, or a group with another card; place: the node */
     KOLFSEIN_VALUE = 9,           /* a value over its field's maximum; place: the first such field,
-                                     0 subject, 1 resource, 2 action */
+                                     0 subject (of kolfsein_look_up only), 1 resource, 2 action */
     KOLFSEIN_LIST_TOO_SHORT = 10, /* the list is shorter than the cards; place 0 */
     KOLFSEIN_ROOM = 11,           /* the built diagram needs over 32,768 places or more than lent; place 0 */
-    KOLFSEIN_DIAGRAM = 12         /* the diagram isn't sound; place 0 */
+    KOLFSEIN_DIAGRAM = 12,        /* the diagram isn't sound; place 0 */
+    KOLFSEIN_SUBJECTS = 13        /* the set of subjects is empty, or has one over the subjects' maximum; place 0 */
 };
 
 /* No ruling has more cards than this: a list of so many places is never too short. */
@@ -61,12 +64,19 @@ enum { KOLFSEIN_MOST_CARDS = 127 };
 /* No sound diagram uses more places than this: so many to build in are too few only where all would be. */
 enum { KOLFSEIN_MOST_PLACES = 32768 };
 
-/* What a call hands back. In a refusal the decision and the count are 0. */
+/* The set of subject k alone, for k from 0 to 63. The set of several: KOLFSEIN_SUBJECT(0) | KOLFSEIN_SUBJECT(2). */
+#define KOLFSEIN_SUBJECT(k) ((uint64_t)1 << (k))
+
+/*
+ * What a call hands back. In a refusal the decision and the count are 0. The subjects are how many members the set has
+ * that kolfsein_rule ruled on, and 0 in every other answer.
+ */
 typedef struct kolfsein_answer {
     uint8_t number;
     uint8_t decision;
     size_t place;
     size_t count;
+    size_t subjects;
 } kolfsein_answer;
 
 /*
@@ -76,20 +86,28 @@ typedef struct kolfsein_answer {
 kolfsein_answer kolfsein_read(const uint8_t *table, size_t table_len);
 
 /*
- * Rules on a request (a value for each field) by a table's groups: number 0, place 0, the decision, and as count the
- * number of matching rules. The list then holds the cards of all matching rules in table order, once for each rule,
- * and 0 in every place after them.
- * Otherwise the first refusal in this order: those of kolfsein_read, then 9, then 10. The list is then all 0.
+ * Rules by a table's groups on a set of subjects that ask together, one resource and one action: number 0, place 0,
+ * the decision, as count the number of matching rules, and as subjects how many members the set has. The list then
+ * holds the cards of all matching rules in table order, once for each rule, and 0 in every place after them.
+ * Otherwise the first refusal in this order: those of kolfsein_read, then 13, then 9 (place 1 or 2), then 10. The list
+ * is then all 0.
+ * Bit k of the set stands for subject k: KOLFSEIN_SUBJECT(2), or (uint64_t)1 << 2, asks for subject 2 alone, and
+ * KOLFSEIN_SUBJECT(0) | KOLFSEIN_SUBJECT(2) for subjects 0 and 2 together. A subject over 63 is in no set: where a
+ * table's maximum is greater, only its diagram can be asked about those, one at a time.
+ * A node applies to the set exactly where at least one member by itself meets its target and every target above it; a
+ * rule that applies matches, and groups combine what their children give. So a set of one subject is ruled as that
+ * subject, while the ruling on several does not follow from those on each.
  */
 kolfsein_answer kolfsein_rule(const uint8_t *table, size_t table_len,
-                              uint16_t subject, uint16_t resource, uint16_t action,
+                              uint64_t subjects, uint16_t resource, uint16_t action,
                               uint16_t *cards, size_t cards_len);
 
 /*
  * Builds the decision diagram of a table into the places lent: number 0, place 0, decision 0, and as count the number
  * of places used. The places then hold the diagram, and 0 after it. It rules as the table's groups do on every request
- * within the table's maxima. Two tables' diagrams are equal, number for number in the places used, exactly when the
- * tables have the same maxima and rule alike, cards included.
+ * of one subject within the table's maxima. Two tables' diagrams are equal, number for number in the places used,
+ * exactly when the tables have the same maxima and rule alike on all these requests, cards included. The tables may
+ * still rule differently on several subjects together.
  * Otherwise the first refusal in this order: those of kolfsein_read, then 11. The places are then all 0.
  * What leaves the same nodes possible is walked once, so the time does not follow the size of the fields. A call takes
  * some 67 KB of stack.
@@ -97,8 +115,9 @@ kolfsein_answer kolfsein_rule(const uint8_t *table, size_t table_len,
 kolfsein_answer kolfsein_build(const uint8_t *table, size_t table_len, uint16_t *diagram, size_t diagram_len);
 
 /*
- * Rules on a request by a diagram: number 0, place 0, the decision, and as count the number of cards, both of the
- * terminal that the request reaches. The list then holds the terminal's cards, and 0 in every place after them.
+ * Rules by a diagram on a request, which is one subject, one resource and one action: number 0, place 0, the decision,
+ * and as count the number of cards, both of the terminal that the request reaches. The list then holds the terminal's
+ * cards, and 0 in every place after them.
  * Otherwise the first refusal in this order: 12, 9, 10. The list is then all 0.
  * A diagram may come from anyone: each call sees whether it is sound, in one pass over the places that it uses. What
  * stands after those makes no difference. A call takes some 35 KB of stack.

@@ -34,31 +34,11 @@ private:
         return node.enter(entries_);
     }
 
-    bool holds(const Node &node) const {
-        return node.low[0] <= request_[0] && request_[0] <= node.high[0] && node.low[1] <= request_[1] &&
-               request_[1] <= node.high[1] && node.low[2] <= request_[2] && request_[2] <= node.high[2];
-    }
-
-    // What the table gives the request. A node whose target fails is stepped over with all under it.
+    // What the table gives the request.
     size_t terminal() {
         OpenTerminal terminal;
-        OpenGroups groups;
-        for (size_t i = 0; i < table_.count;) {
-            const Node &node = table_.nodes[i];
-            if (!holds(node)) {
-                i = node.end;
-                continue;
-            }
-            groups.close_before(i);
-            if (node.is_rule()) {
-                terminal.add(node.card);
-                groups.take(node.effect());
-            } else {
-                groups.open(i, node);
-            }
-            ++i;
-        }
-        return terminal.enter(entries_, groups.close_all());
+        const uint8_t decision = decide(table_, request_, [&](uint16_t card) { terminal.add(card); });
+        return terminal.enter(entries_, decision);
     }
 
     const Parsed &table_;

@@ -49,69 +49,99 @@ kolfsein_answer read(const uint8_t *table, size_t length) {
         }
         ends[++depth] = i + span;
     }
-    return {KOLFSEIN_OK, 0, 0, nodes};
+    return {KOLFSEIN_OK, 0, 0, nodes, 0};
 }
 
-// Rules on a request: the table is read at each call.
-kolfsein_answer rule(const uint8_t *table, size_t length, uint16_t subject, uint16_t resource, uint16_t action,
+namespace {
+
+// The subjects in a range, both ends included, as a set: those from 64 on are in none.
+uint64_t subjects_in(unsigned low, unsigned high) {
+    if (low > 63) {
+        return 0;
+    }
+    const uint64_t from_low = ~uint64_t{0} << low;
+    return high > 62 ? from_low : from_low & ~uint64_t{0} >> (63 - high);
+}
+
+// How many subjects a set has. For x86-64 without further options the compiler's own is a call.
+size_t size_of(uint64_t subjects) {
+    subjects -= subjects >> 1 & 0x5555555555555555u;
+    subjects = (subjects & 0x3333333333333333u) + (subjects >> 2 & 0x3333333333333333u);
+    subjects = (subjects + (subjects >> 4)) & 0x0F0F0F0F0F0F0F0Fu;
+    return subjects * 0x0101010101010101u >> 56;
+}
+
+}  // namespace
+
+// Rules on a set of subjects that ask together: the table is read at each call.
+kolfsein_answer rule(const uint8_t *table, size_t length, uint64_t subjects, uint16_t resource, uint16_t action,
                      uint16_t *cards, size_t room) {
     std::memset(cards, 0, room * sizeof *cards);
     const kolfsein_answer reading = read(table, length);
     if (reading.number != 0) {
         return reading;
     }
-    const uint16_t values[FIELDS] = {subject, resource, action};
-    for (size_t field = 0; field < FIELDS; ++field) {
-        if (values[field] > table[3 + field]) {
-            return refused(KOLFSEIN_VALUE, field);
-        }
+    const uint8_t *maxima = table + 3;
+    if (subjects == 0 || (maxima[0] < 63 && subjects >> (maxima[0] + 1) != 0)) {
+        return refused(KOLFSEIN_SUBJECTS, 0);
     }
-    // The open groups; the outermost stands for the table, and takes in the root's decision.
-    struct {
+    if (resource > maxima[1]) {
+        return refused(KOLFSEIN_VALUE, 1);
+    }
+    if (action > maxima[2]) {
+        return refused(KOLFSEIN_VALUE, 2);
+    }
+    // A group, the members for whom its target and every target above it hold, and its decision so far.
+    struct Group {
         size_t end;
+        uint64_t members;
         uint8_t kind, decision;
-    } open[LEVELS + 1];
-    size_t depth = 0;
-    open[0] = {reading.count + 1, 0, 0};
-    size_t count = 0;
-    const auto take = [&](uint8_t decision) {
-        open[depth].decision = COMBINING[open[depth].kind][open[depth].decision][decision];
     };
+    // The innermost open group, and those above it. The outermost stands for the table, and takes in the root's
+    // decision.
+    Group group = {reading.count, subjects, 0, 0};
+    Group above[LEVELS];
+    size_t depth = 0;
+    size_t count = 0;
     size_t i = 0;
-    while (i < reading.count) {
-        while (open[depth].end <= i) {
-            const uint8_t decision = open[depth--].decision;
-            take(decision);
-        }
-        const uint8_t *record = table + HEADER + RECORD * i;
-        const bool holds = record[5] <= subject && subject <= record[6] && record[7] <= resource &&
-                           resource <= record[8] && record[9] <= action && action <= record[10];
-        const size_t span = word(record + 1);
-        if (!holds) {
-            i += span;
-            continue;
-        }
-        const uint8_t kind = record[0];
-        if (kind < 4) {
-            open[++depth] = {i + span, kind, 0};
-        } else {
-            if (count < room) {
-                cards[count] = static_cast<uint16_t>(word(record + 3));
+    for (;;) {
+        while (i < group.end) {
+            const uint8_t *record = table + HEADER + RECORD * i;
+            const size_t next = i + word(record + 1);
+            if (resource < record[7] || resource > record[8] || action < record[9] || action > record[10]) {
+                i = next;
+                continue;
             }
-            ++count;
-            take(kind - 3);
+            const uint64_t left = group.members & subjects_in(record[5], record[6]);
+            if (left == 0) {
+                i = next;
+                continue;
+            }
+            const uint8_t kind = record[0];
+            if (kind < 4) {
+                above[depth++] = group;
+                group = {next, left, kind, 0};
+            } else {
+                if (count < room) {
+                    cards[count] = static_cast<uint16_t>(word(record + 3));
+                }
+                ++count;
+                group.decision = COMBINING[group.kind][group.decision][kind - 3];
+            }
+            ++i;
         }
-        ++i;
-    }
-    while (depth > 0) {
-        const uint8_t decision = open[depth--].decision;
-        take(decision);
+        if (depth == 0) {
+            break;
+        }
+        const uint8_t decision = group.decision;
+        group = above[--depth];
+        group.decision = COMBINING[group.kind][group.decision][decision];
     }
     if (count > room) {
         std::memset(cards, 0, room * sizeof *cards);
         return refused(KOLFSEIN_LIST_TOO_SHORT, 0);
     }
-    return {KOLFSEIN_OK, open[0].decision, 0, count};
+    return {KOLFSEIN_OK, group.decision, 0, count, size_of(subjects)};
 }
 
 namespace {
@@ -202,7 +232,7 @@ kolfsein_answer look_up_unchecked(const uint16_t *diagram, size_t, uint16_t subj
         return refused(KOLFSEIN_LIST_TOO_SHORT, 0);
     }
     std::memcpy(cards, diagram + place + 3, count * sizeof *cards);
-    return {KOLFSEIN_OK, static_cast<uint8_t>(diagram[place + 1]), 0, count};
+    return {KOLFSEIN_OK, static_cast<uint8_t>(diagram[place + 1]), 0, count, 0};
 }
 
 // Rules on a request by a diagram from anyone: 12, then 9 and 10.

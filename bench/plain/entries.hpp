@@ -160,7 +160,7 @@ kolfsein_answer build(const uint8_t *table, size_t table_len, uint16_t *diagram,
     diagram[1] = static_cast<uint16_t>(root);
     std::copy_n(parsed.maxima, FIELDS, diagram + 2);
     std::memset(diagram + used, 0, (diagram_len - used) * sizeof *diagram);
-    return {KOLFSEIN_OK, 0, 0, used};
+    return {KOLFSEIN_OK, 0, 0, used, 0};
 }
 
 }  // namespace plain

@@ -18,6 +18,13 @@ struct Node {
 
     bool is_rule() const { return kind >= 4; }
 
+    // Whether its target holds for one value in each field.
+    template <class Values>
+    bool holds(const Values &values) const {
+        return low[0] <= values[0] && values[0] <= high[0] && low[1] <= values[1] && values[1] <= high[1] &&
+               low[2] <= values[2] && values[2] <= high[2];
+    }
+
     // What a matching rule gives.
     uint8_t effect() const { return static_cast<uint8_t>(kind - 3); }
 };
@@ -87,5 +94,28 @@ private:
     Group open_[LEVELS + 1];
     size_t depth_;
 };
+
+// What a table gives a request of one value in each field: the decision, and to add each matching card. A node whose
+// target fails is stepped over with all under it.
+template <class Values, class Add>
+uint8_t decide(const Parsed &table, const Values &values, const Add &add) {
+    OpenGroups groups;
+    for (size_t i = 0; i < table.count;) {
+        const Node &node = table.nodes[i];
+        if (!node.holds(values)) {
+            i = node.end;
+            continue;
+        }
+        groups.close_before(i);
+        if (node.is_rule()) {
+            add(node.card);
+            groups.take(node.effect());
+        } else {
+            groups.open(i, node);
+        }
+        ++i;
+    }
+    return groups.close_all();
+}
 
 }  // namespace plain

@@ -26,7 +26,7 @@ constexpr uint8_t COMBINING[4][4][4] = {
     {{0, 1, 2, 2}, {1, 1, 2, 2}, {2, 2, 2, 2}, {2, 2, 2, 2}},
 };
 
-inline kolfsein_answer refused(uint8_t number, size_t place) { return {number, 0, place, 0}; }
+inline kolfsein_answer refused(uint8_t number, size_t place) { return {number, 0, place, 0, 0}; }
 
 // A number of two bytes.
 inline size_t word(const uint8_t *at) { return static_cast<size_t>(at[0]) << 8 | at[1]; }
@@ -35,7 +35,7 @@ inline size_t word(const uint8_t *at) { return static_cast<size_t>(at[0]) << 8 |
 kolfsein_answer read(const uint8_t *table, size_t table_len);
 
 // As kolfsein_rule: the table is read at each call.
-kolfsein_answer rule(const uint8_t *table, size_t table_len, uint16_t subject, uint16_t resource, uint16_t action,
+kolfsein_answer rule(const uint8_t *table, size_t table_len, uint64_t subjects, uint16_t resource, uint16_t action,
                      uint16_t *cards, size_t cards_len);
 
 // As kolfsein_look_up: the diagram is checked at each call.

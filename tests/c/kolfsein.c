@@ -1,7 +1,7 @@
 /*
  * The interface as a C or a C++ program meets it, compiled from this one source as either: the header's names and
- * struct, the requirements' cases of table T, each refusal of each call, null pointers of length 0, and what stands
- * around what is lent. Other tables and diagrams are left to the tests in Rust.
+ * struct, the requirements' cases of table T, sets of subjects, each refusal of each call, null pointers of length 0,
+ * and what stands around what is lent. Other tables and diagrams are left to the tests in Rust.
  */
 #include "kolfsein.h" /* first, so that it needs nothing before it */
 
@@ -26,6 +26,7 @@ static void same_answer(int line, kolfsein_answer is, kolfsein_answer should) {
     same(line, "the decision", is.decision, should.decision);
     same(line, "the place", is.place, should.place);
     same(line, "the count", is.count, should.count);
+    same(line, "the subjects", is.subjects, should.subjects);
 }
 
 /* A call is lent the first of these places, as many as it is to write; before and after them stand marks. */
@@ -123,11 +124,29 @@ static struct diagram diagram_with(size_t at, uint16_t number) {
 /* A request and a list of some length, the answer that should come back, and the cards that the list should hold. */
 struct asked {
     int line;
-    uint16_t values[3];
+    uint16_t subject, resource, action;
     size_t list;
     kolfsein_answer should;
     uint16_t cards[2];
 };
+
+/* The same of a set of subjects. */
+struct asked_together {
+    int line;
+    uint64_t subjects;
+    uint16_t resource, action;
+    size_t list;
+    kolfsein_answer should;
+    uint16_t cards[2];
+};
+
+/* A request as that of a set of one subject: where it is ruled on, the answer has this one. */
+static struct asked_together alone(const struct asked *a) {
+    struct asked_together set = {
+        a->line, KOLFSEIN_SUBJECT(a->subject), a->resource, a->action, a->list, a->should, {a->cards[0], a->cards[1]}};
+    set.should.subjects = a->should.number == KOLFSEIN_OK;
+    return set;
+}
 
 static void reads(int line, struct table t, kolfsein_answer should) {
     const struct table was = t;
@@ -136,10 +155,10 @@ static void reads(int line, struct table t, kolfsein_answer should) {
     unchanged(line, t.bytes, was.bytes, sizeof t.bytes);
 }
 
-static void rules(struct table t, const struct asked *a) {
+static void rules(struct table t, const struct asked_together *a) {
     const struct table was = t;
     mark();
-    kolfsein_answer is = kolfsein_rule(t.bytes, t.len, a->values[0], a->values[1], a->values[2], lent, a->list);
+    kolfsein_answer is = kolfsein_rule(t.bytes, t.len, a->subjects, a->resource, a->action, lent, a->list);
     same_answer(a->line, is, a->should);
     holds(a->line, a->list, a->should.count, a->cards);
     unchanged(a->line, t.bytes, was.bytes, sizeof t.bytes);
@@ -158,7 +177,7 @@ static void looks_up(struct diagram d, const struct asked *a) {
     const struct diagram was = d;
     mark();
     kolfsein_answer is =
-        kolfsein_look_up(d.numbers, COUNT(d.numbers), a->values[0], a->values[1], a->values[2], lent, a->list);
+        kolfsein_look_up(d.numbers, COUNT(d.numbers), a->subject, a->resource, a->action, lent, a->list);
     same_answer(a->line, is, a->should);
     holds(a->line, a->list, a->should.count, a->cards);
     unchanged(a->line, d.numbers, was.numbers, sizeof d.numbers);
@@ -185,8 +204,14 @@ static void names(void) {
     NAMED(KOLFSEIN_LIST_TOO_SHORT, 10);
     NAMED(KOLFSEIN_ROOM, 11);
     NAMED(KOLFSEIN_DIAGRAM, 12);
+    NAMED(KOLFSEIN_SUBJECTS, 13);
     NAMED(KOLFSEIN_MOST_CARDS, 127);
     NAMED(KOLFSEIN_MOST_PLACES, 32768);
+    NAMED(KOLFSEIN_SUBJECT(0), 1);
+    NAMED(KOLFSEIN_SUBJECT(31), 0x80000000);
+    NAMED(KOLFSEIN_SUBJECT(32), 0x100000000);
+    NAMED(KOLFSEIN_SUBJECT(63), 0x8000000000000000);
+    NAMED(KOLFSEIN_SUBJECT(0) | KOLFSEIN_SUBJECT(2), 5);
 }
 
 /* The struct is laid out as x86-64 lays out what the library hands back. */
@@ -195,26 +220,65 @@ static void layout(void) {
     same(__LINE__, "the offset of the decision", offsetof(kolfsein_answer, decision), 1);
     same(__LINE__, "the offset of the place", offsetof(kolfsein_answer, place), 8);
     same(__LINE__, "the offset of the count", offsetof(kolfsein_answer, count), 16);
-    same(__LINE__, "the size of an answer", sizeof(kolfsein_answer), 24);
+    same(__LINE__, "the offset of the subjects", offsetof(kolfsein_answer, subjects), 24);
+    same(__LINE__, "the size of an answer", sizeof(kolfsein_answer), 32);
 }
 
 /* Asked of T, by its groups and by its diagram alike; a 256 that lost its high byte would be within its field. */
 static const struct asked OF_T[] = {
-    {__LINE__, {0, 0, 0}, 1, {KOLFSEIN_OK, KOLFSEIN_PERMIT, 0, 1}, {10, 0}},
-    {__LINE__, {1, 1, 1}, 1, {KOLFSEIN_OK, KOLFSEIN_PERMIT, 0, 1}, {30, 0}},
-    {__LINE__, {2, 0, 1}, 1, {KOLFSEIN_OK, KOLFSEIN_NOT_APPLICABLE, 0, 0}, {0, 0}},
-    {__LINE__, {2, 0, 0}, 3, {KOLFSEIN_OK, KOLFSEIN_DENY, 0, 2}, {10, 20}},
-    {__LINE__, {2, 0, 0}, MOST_LENT, {KOLFSEIN_OK, KOLFSEIN_DENY, 0, 2}, {10, 20}},
-    {__LINE__, {2, 0, 0}, 1, {KOLFSEIN_LIST_TOO_SHORT, 0, 0, 0}, {0, 0}},
-    {__LINE__, {3, 0, 0}, 3, {KOLFSEIN_VALUE, 0, 0, 0}, {0, 0}},
-    {__LINE__, {256, 0, 0}, 3, {KOLFSEIN_VALUE, 0, 0, 0}, {0, 0}},
-    {__LINE__, {0, 256, 0}, 3, {KOLFSEIN_VALUE, 0, 1, 0}, {0, 0}},
-    {__LINE__, {0, 0, 256}, 3, {KOLFSEIN_VALUE, 0, 2, 0}, {0, 0}},
+    {__LINE__, 0, 0, 0, 1, {KOLFSEIN_OK, KOLFSEIN_PERMIT, 0, 1, 0}, {10, 0}},
+    {__LINE__, 1, 1, 1, 1, {KOLFSEIN_OK, KOLFSEIN_PERMIT, 0, 1, 0}, {30, 0}},
+    {__LINE__, 2, 0, 1, 1, {KOLFSEIN_OK, KOLFSEIN_NOT_APPLICABLE, 0, 0, 0}, {0, 0}},
+    {__LINE__, 2, 0, 0, 3, {KOLFSEIN_OK, KOLFSEIN_DENY, 0, 2, 0}, {10, 20}},
+    {__LINE__, 2, 0, 0, MOST_LENT, {KOLFSEIN_OK, KOLFSEIN_DENY, 0, 2, 0}, {10, 20}},
+    {__LINE__, 2, 0, 0, 1, {KOLFSEIN_LIST_TOO_SHORT, 0, 0, 0, 0}, {0, 0}},
+    {__LINE__, 0, 2, 0, 3, {KOLFSEIN_VALUE, 0, 1, 0, 0}, {0, 0}},
+    {__LINE__, 0, 0, 2, 3, {KOLFSEIN_VALUE, 0, 2, 0, 0}, {0, 0}},
+    {__LINE__, 2, 2, 2, 0, {KOLFSEIN_VALUE, 0, 1, 0, 0}, {0, 0}},
+    {__LINE__, 0, 256, 0, 3, {KOLFSEIN_VALUE, 0, 1, 0, 0}, {0, 0}},
+    {__LINE__, 0, 0, 256, 3, {KOLFSEIN_VALUE, 0, 2, 0, 0}, {0, 0}},
 };
 
-static const kolfsein_answer READ = {KOLFSEIN_OK, 0, 0, 5};
-static const kolfsein_answer BUILT = {KOLFSEIN_OK, 0, 0, 63};
-static const kolfsein_answer NO_ROOM = {KOLFSEIN_ROOM, 0, 0, 0};
+/* Asked of T's diagram only: a subject over the maximum. */
+static const struct asked OF_DIAGRAM[] = {
+    {__LINE__, 3, 0, 0, 3, {KOLFSEIN_VALUE, 0, 0, 0, 0}, {0, 0}},
+    {__LINE__, 3, 2, 2, 3, {KOLFSEIN_VALUE, 0, 0, 0, 0}, {0, 0}},
+    {__LINE__, 256, 0, 0, 3, {KOLFSEIN_VALUE, 0, 0, 0, 0}, {0, 0}},
+};
+
+/* T's subjects, each as a set of its own, and one over the maximum. */
+enum { SCOUT = 1, CAPTAIN = 2, SMUGGLER = 4, NOBODY = 8 };
+
+/*
+ * Asked of T's groups only: several subjects together, and sets with a fault, before whatever else is at fault. A set
+ * that lost its high bits would be within the maximum.
+ */
+static const struct asked_together OF_GROUPS[] = {
+    {__LINE__, SCOUT | CAPTAIN, 0, 0, 1, {KOLFSEIN_OK, KOLFSEIN_PERMIT, 0, 1, 2}, {10, 0}},
+    {__LINE__, SCOUT | SMUGGLER, 0, 0, 3, {KOLFSEIN_OK, KOLFSEIN_DENY, 0, 2, 2}, {10, 20}},
+    {__LINE__, SCOUT | CAPTAIN | SMUGGLER, 0, 0, 2, {KOLFSEIN_OK, KOLFSEIN_DENY, 0, 2, 3}, {10, 20}},
+    {__LINE__, SCOUT | CAPTAIN | SMUGGLER, 1, 0, 2, {KOLFSEIN_OK, KOLFSEIN_PERMIT, 0, 1, 3}, {10, 0}},
+    {__LINE__, CAPTAIN | SMUGGLER, 1, 1, 1, {KOLFSEIN_OK, KOLFSEIN_PERMIT, 0, 1, 2}, {30, 0}},
+    {__LINE__, SCOUT | SMUGGLER, 1, 1, 0, {KOLFSEIN_OK, KOLFSEIN_NOT_APPLICABLE, 0, 0, 2}, {0, 0}},
+    {__LINE__, SCOUT | SMUGGLER, 0, 0, 1, {KOLFSEIN_LIST_TOO_SHORT, 0, 0, 0, 0}, {0, 0}},
+    {__LINE__, SCOUT | CAPTAIN | SMUGGLER, 2, 2, 3, {KOLFSEIN_VALUE, 0, 1, 0, 0}, {0, 0}},
+    {__LINE__, SCOUT | CAPTAIN | SMUGGLER, 1, 2, 0, {KOLFSEIN_VALUE, 0, 2, 0, 0}, {0, 0}},
+    {__LINE__, 0, 0, 0, 3, {KOLFSEIN_SUBJECTS, 0, 0, 0, 0}, {0, 0}},
+    {__LINE__, NOBODY, 0, 0, 3, {KOLFSEIN_SUBJECTS, 0, 0, 0, 0}, {0, 0}},
+    {__LINE__, SCOUT | CAPTAIN | SMUGGLER | NOBODY, 0, 0, 3, {KOLFSEIN_SUBJECTS, 0, 0, 0, 0}, {0, 0}},
+    {__LINE__, KOLFSEIN_SUBJECT(8) | SMUGGLER, 0, 0, 3, {KOLFSEIN_SUBJECTS, 0, 0, 0, 0}, {0, 0}},
+    {__LINE__, KOLFSEIN_SUBJECT(32) | SMUGGLER, 0, 0, 3, {KOLFSEIN_SUBJECTS, 0, 0, 0, 0}, {0, 0}},
+    {__LINE__, KOLFSEIN_SUBJECT(63) | SMUGGLER, 0, 0, 3, {KOLFSEIN_SUBJECTS, 0, 0, 0, 0}, {0, 0}},
+    {__LINE__, UINT64_MAX, 0, 0, 3, {KOLFSEIN_SUBJECTS, 0, 0, 0, 0}, {0, 0}},
+    {__LINE__, 0, 2, 0, 3, {KOLFSEIN_SUBJECTS, 0, 0, 0, 0}, {0, 0}},
+    {__LINE__, SMUGGLER | NOBODY, 2, 2, 3, {KOLFSEIN_SUBJECTS, 0, 0, 0, 0}, {0, 0}},
+    {__LINE__, SMUGGLER | NOBODY, 0, 256, 0, {KOLFSEIN_SUBJECTS, 0, 0, 0, 0}, {0, 0}},
+    {__LINE__, SMUGGLER | NOBODY, 0, 0, 1, {KOLFSEIN_SUBJECTS, 0, 0, 0, 0}, {0, 0}},
+};
+
+static const kolfsein_answer READ = {KOLFSEIN_OK, 0, 0, 5, 0};
+static const kolfsein_answer BUILT = {KOLFSEIN_OK, 0, 0, 63, 0};
+static const kolfsein_answer NO_ROOM = {KOLFSEIN_ROOM, 0, 0, 0, 0};
 
 static void cases_of_t(void) {
     const struct table t = t_with(0, T[0]);               /* T itself */
@@ -224,33 +288,114 @@ static void cases_of_t(void) {
     builds(__LINE__, t, 63, BUILT, DIAGRAM);
     builds(__LINE__, t, MOST_LENT, BUILT, DIAGRAM);
     for (size_t i = 0; i < COUNT(OF_T); i++) {
-        rules(t, &OF_T[i]);
+        const struct asked_together set = alone(&OF_T[i]);
+        rules(t, &set);
         looks_up(d, &OF_T[i]);
+    }
+    for (size_t i = 0; i < COUNT(OF_DIAGRAM); i++) {
+        looks_up(d, &OF_DIAGRAM[i]);
+    }
+    for (size_t i = 0; i < COUNT(OF_GROUPS); i++) {
+        rules(t, &OF_GROUPS[i]);
     }
 }
 
 /* T with a root of another kind: in its diagram only the entry at place 38 has another decision. */
 static void root_of_kind(int line, uint8_t kind, uint8_t decision) {
-    const struct asked a = {line, {2, 0, 0}, 3, {KOLFSEIN_OK, decision, 0, 2}, {10, 20}};
+    const struct asked a = {line, 2, 0, 0, 3, {KOLFSEIN_OK, decision, 0, 2, 0}, {10, 20}};
+    const struct asked_together set = alone(&a);
     const struct table t = t_with(START(0), kind);
     const struct diagram d = diagram_with(39, decision);
-    rules(t, &a);
+    rules(t, &set);
     builds(line, t, 63, BUILT, d.numbers);
     looks_up(d, &a);
 }
 
-/* A table that each call refuses. */
+/* T with its last rule for the smuggler, in a group for the captain: no member by itself meets both targets. */
+static void by_itself(void) {
+    static const struct asked_together each_target_met = {
+        __LINE__, CAPTAIN | SMUGGLER, 1, 1, 1, {KOLFSEIN_OK, KOLFSEIN_NOT_APPLICABLE, 0, 0, 2}, {0, 0}};
+    rules(t_with(START(4) + 5, 2), &each_target_met);
+}
+
+/* One rule to permit: card 7, for subject 63, where the greatest subject is 255. */
+static void all_bits_of_a_set(void) {
+    static const struct asked_together sets[] = {
+        {__LINE__, KOLFSEIN_SUBJECT(63), 0, 0, 1, {KOLFSEIN_OK, KOLFSEIN_PERMIT, 0, 1, 1}, {7, 0}},
+        {__LINE__, UINT64_MAX, 0, 0, 1, {KOLFSEIN_OK, KOLFSEIN_PERMIT, 0, 1, 64}, {7, 0}},
+        {__LINE__, UINT64_MAX >> 1, 0, 0, 1, {KOLFSEIN_OK, KOLFSEIN_NOT_APPLICABLE, 0, 0, 63}, {0, 0}},
+    };
+    static const struct table t = {{0, START(1) - 2, 1, 255, 0, 0, 0, 1, 4, 0, 1, 0, 7, 63, 63, 0, 0, 0, 0}, START(1)};
+    for (size_t i = 0; i < COUNT(sets); i++) {
+        rules(t, &sets[i]);
+    }
+}
+
+/* A first-applicable group over a rule to permit, card 1, for subject 0, and a rule to deny, card 2, for subject 1. */
+static const struct table PERMIT_FIRST = {
+    {0, START(3) - 2, 1, 1, 0, 0, 0, 3,
+     0, 0, 3, 0, 0, 0, 1, 0, 0, 0, 0,
+     4, 0, 1, 0, 1, 0, 0, 0, 0, 0, 0,
+     5, 0, 1, 0, 2, 1, 1, 0, 0, 0, 0},
+    START(3)};
+
+/* The same with the two rules in the other order. */
+static const struct table DENY_FIRST = {
+    {0, START(3) - 2, 1, 1, 0, 0, 0, 3,
+     0, 0, 3, 0, 0, 0, 1, 0, 0, 0, 0,
+     5, 0, 1, 0, 2, 1, 1, 0, 0, 0, 0,
+     4, 0, 1, 0, 1, 0, 0, 0, 0, 0, 0},
+    START(3)};
+
+/* The diagram of either. */
+static const uint16_t OF_EITHER[] = {
+    35, 29, 1, 0, 0,
+    /* 5 */ 0, 1, 1, 1,
+    /* 9 */ 3, 1, 0, 5,
+    /* 13 */ 2, 1, 0, 9,
+    /* 17 */ 0, 2, 1, 2,
+    /* 21 */ 3, 1, 0, 17,
+    /* 25 */ 2, 1, 0, 21,
+    /* 29 */ 1, 2, 0, 13, 1, 25,
+};
+
+/* Tables that rule alike on each subject, and so have the same diagram, but not on both subjects together. */
+static void same_diagram(void) {
+    static const kolfsein_answer built = {KOLFSEIN_OK, 0, 0, COUNT(OF_EITHER), 0};
+    static const struct asked_together each[] = {
+        {__LINE__, 1, 0, 0, 2, {KOLFSEIN_OK, KOLFSEIN_PERMIT, 0, 1, 1}, {1, 0}},
+        {__LINE__, 2, 0, 0, 2, {KOLFSEIN_OK, KOLFSEIN_DENY, 0, 1, 1}, {2, 0}},
+    };
+    static const struct asked_together permitted = {
+        __LINE__, 1 | 2, 0, 0, 2, {KOLFSEIN_OK, KOLFSEIN_PERMIT, 0, 2, 2}, {1, 2}};
+    static const struct asked_together denied = {
+        __LINE__, 1 | 2, 0, 0, 2, {KOLFSEIN_OK, KOLFSEIN_DENY, 0, 2, 2}, {2, 1}};
+    builds(__LINE__, PERMIT_FIRST, MOST_LENT, built, OF_EITHER);
+    builds(__LINE__, DENY_FIRST, MOST_LENT, built, OF_EITHER);
+    for (size_t i = 0; i < COUNT(each); i++) {
+        rules(PERMIT_FIRST, &each[i]);
+        rules(DENY_FIRST, &each[i]);
+    }
+    rules(PERMIT_FIRST, &permitted);
+    rules(DENY_FIRST, &denied);
+}
+
+/* A table that each call refuses, whether or not the set that is asked has a fault too. */
 static void refuses(int line, struct table t, uint8_t number, size_t place) {
-    const kolfsein_answer should = {number, 0, place, 0};
-    const struct asked a = {line, {2, 0, 0}, 3, should, {0, 0}};
+    const kolfsein_answer should = {number, 0, place, 0, 0};
+    const struct asked_together sets[] = {
+        {line, SMUGGLER, 0, 0, 3, should, {0, 0}},
+        {line, 0, 0, 0, 3, should, {0, 0}},
+    };
     reads(line, t, should);
-    rules(t, &a);
+    rules(t, &sets[0]);
+    rules(t, &sets[1]);
     builds(line, t, 63, should, NULL);
 }
 
 /* The refusals of a table and of a diagram. */
 static void refusals(void) {
-    static const struct asked unsound = {__LINE__, {2, 0, 0}, 3, {KOLFSEIN_DIAGRAM, 0, 0, 0}, {0, 0}};
+    static const struct asked unsound = {__LINE__, 2, 0, 0, 3, {KOLFSEIN_DIAGRAM, 0, 0, 0, 0}, {0, 0}};
     refuses(__LINE__, t_with(1, 62), KOLFSEIN_LENGTH, 0);
     refuses(__LINE__, t_with(2, 2), KOLFSEIN_VERSION, 0);
     refuses(__LINE__, t_with(7, 6), KOLFSEIN_NODE_COUNT, 0);
@@ -264,13 +409,14 @@ static void refusals(void) {
 
 /* Each pointer of each call null, where its length is 0. */
 static void null_pointers(void) {
-    static const kolfsein_answer no_table = {KOLFSEIN_LENGTH, 0, 0, 0};
-    static const kolfsein_answer no_diagram = {KOLFSEIN_DIAGRAM, 0, 0, 0};
-    static const kolfsein_answer no_cards = {KOLFSEIN_OK, KOLFSEIN_NOT_APPLICABLE, 0, 0};
+    static const kolfsein_answer no_table = {KOLFSEIN_LENGTH, 0, 0, 0, 0};
+    static const kolfsein_answer no_diagram = {KOLFSEIN_DIAGRAM, 0, 0, 0, 0};
+    static const kolfsein_answer ruled = {KOLFSEIN_OK, KOLFSEIN_NOT_APPLICABLE, 0, 0, 1};
+    static const kolfsein_answer looked_up = {KOLFSEIN_OK, KOLFSEIN_NOT_APPLICABLE, 0, 0, 0};
     kolfsein_answer is = kolfsein_read(NULL, 0);
     same_answer(__LINE__, is, no_table);
     mark();
-    is = kolfsein_rule(NULL, 0, 0, 0, 0, lent, 3);
+    is = kolfsein_rule(NULL, 0, 1, 0, 0, lent, 3);
     same_answer(__LINE__, is, no_table);
     holds(__LINE__, 3, 0, NULL);
     mark();
@@ -281,12 +427,12 @@ static void null_pointers(void) {
     is = kolfsein_look_up(NULL, 0, 0, 0, 0, lent, 3);
     same_answer(__LINE__, is, no_diagram);
     holds(__LINE__, 3, 0, NULL);
-    is = kolfsein_rule(T, sizeof T, 2, 0, 1, NULL, 0);
-    same_answer(__LINE__, is, no_cards);
+    is = kolfsein_rule(T, sizeof T, KOLFSEIN_SUBJECT(2), 0, 1, NULL, 0);
+    same_answer(__LINE__, is, ruled);
     is = kolfsein_build(T, sizeof T, NULL, 0);
     same_answer(__LINE__, is, NO_ROOM);
     is = kolfsein_look_up(DIAGRAM, COUNT(DIAGRAM), 2, 0, 1, NULL, 0);
-    same_answer(__LINE__, is, no_cards);
+    same_answer(__LINE__, is, looked_up);
 }
 
 int main(void) {
@@ -295,6 +441,9 @@ int main(void) {
     cases_of_t();
     root_of_kind(__LINE__, 1, KOLFSEIN_INDETERMINATE);
     root_of_kind(__LINE__, 2, KOLFSEIN_PERMIT);
+    by_itself();
+    all_bits_of_a_set();
+    same_diagram();
     refusals();
     null_pointers();
     printf("%lu checks, %lu failures\n", checks, failures);

@@ -1,6 +1,6 @@
 //! The library's C interface, as `include/kolfsein.h` declares it.
 
-use crate::{Decision, Reason, Refusal, Ruling};
+use crate::{Decision, JointRuling, Reason, Refusal, Ruling};
 
 /// `kolfsein_answer`.
 #[repr(C)]
@@ -9,6 +9,7 @@ pub(crate) struct Answer {
     decision: u8,
     place: usize,
     count: usize,
+    subjects: usize,
 }
 
 extern "C" {
@@ -17,7 +18,7 @@ extern "C" {
     pub(crate) fn kolfsein_rule(
         table: *const u8,
         table_len: usize,
-        subject: u16,
+        subjects: u64,
         resource: u16,
         action: u16,
         cards: *mut u16,
@@ -45,31 +46,42 @@ extern "C" {
 impl Answer {
     /// The count of a reading or of a build.
     pub(crate) fn counted(self) -> Result<usize, Refusal> {
-        self.refused().map_or(Ok(self.count), Err)
+        Ok(self.accepted()?.count)
     }
 
-    /// The decision and the count of a ruling.
-    pub(crate) fn ruled(self) -> Result<Ruling, Refusal> {
-        self.refused().map_or_else(|| Ok(self.ruling()), Err)
+    /// A ruling by a table's groups.
+    pub(crate) fn ruled(self) -> Result<JointRuling, Refusal> {
+        let answer = self.accepted()?;
+        Ok(JointRuling {
+            decision: answer.decision(),
+            count: answer.count,
+            subjects: answer.subjects,
+        })
     }
 
-    fn ruling(&self) -> Ruling {
-        let decision = match self.decision {
+    /// A ruling by a diagram.
+    pub(crate) fn looked_up(self) -> Result<Ruling, Refusal> {
+        let answer = self.accepted()?;
+        Ok(Ruling {
+            decision: answer.decision(),
+            count: answer.count,
+        })
+    }
+
+    fn decision(&self) -> Decision {
+        match self.decision {
             0 => Decision::NotApplicable,
             1 => Decision::Permit,
             2 => Decision::Deny,
             3 => Decision::Indeterminate,
             other => unreachable!("no decision has number {other}"),
-        };
-        Ruling {
-            decision,
-            count: self.count,
         }
     }
 
-    fn refused(&self) -> Option<Refusal> {
+    /// The answer where nothing is refused.
+    fn accepted(self) -> Result<Answer, Refusal> {
         let reason = match self.number {
-            0 => return None,
+            0 => return Ok(self),
             1 => Reason::Length,
             2 => Reason::Version,
             3 => Reason::NodeCount,
@@ -82,9 +94,10 @@ impl Answer {
             10 => Reason::ListTooShort,
             11 => Reason::Room,
             12 => Reason::Diagram,
+            13 => Reason::Subjects,
             other => unreachable!("no refusal has number {other}"),
         };
-        Some(Refusal {
+        Err(Refusal {
             reason,
             place: self.place,
         })

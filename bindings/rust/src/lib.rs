@@ -1,19 +1,23 @@
 //! Kolfsein, a verified policy engine for board games: safe calls of its static library.
 //!
-//! A table of rules in nested groups is read, ruled by, or built into a decision diagram, which rules as it does.
+//! A table of rules in nested groups is read, ruled by for one subject or for several that ask together, or built into
+//! a decision diagram, which rules as it does on one subject at a time.
 //! Each call takes any bytes, any numbers and any values and ends. It allocates nothing and keeps nothing between
 //! calls, so any thread may call; one takes up to some 67 KB of stack. The repository's docs/FORMAT.md describes the
 //! formats.
 //!
 //! Which call when:
-//! - [`rule`] where the table is at hand. It reads the table itself, and needs no [`read`] before it.
+//! - [`rule`] where the table is at hand, for one subject or for several that ask together. It reads the table itself,
+//!   and needs no [`read`] before it.
 //! - [`read`] to see whether a table is accepted, and which node is at fault where it is not.
-//! - [`build`] to see whether two tables rule alike, or to hand on what a table rules in its place.
-//! - [`look_up`] where a diagram is at hand and no table. Each call checks the whole diagram, so it takes longer than
-//!   [`rule`] unless the diagram is small for its table; docs/PERFORMANCE.md has the figures.
+//! - [`build`] to see whether two tables rule alike on every subject by itself, or to hand on these rulings in place of
+//!   the table.
+//! - [`look_up`] for one subject, where a diagram is at hand and no table, or where the subject is over 63 and so in no
+//!   set. Each call checks the whole diagram, so it takes longer than [`rule`] unless the diagram is small for its
+//!   table; docs/PERFORMANCE.md has the figures.
 //!
 //! ```
-//! use kolfsein::{Decision, Reason, Request, MOST_CARDS, MOST_PLACES};
+//! use kolfsein::{Decision, JointRequest, Reason, Request, Subjects, MOST_CARDS, MOST_PLACES};
 //!
 //! let table = [
 //!     0, 61, 1, 2, 1, 1, 0, 5, // 61 bytes follow, version 1, the maxima 2, 1 and 1, 5 nodes
@@ -25,25 +29,28 @@
 //! ];
 //! assert_eq!(kolfsein::read(&table)?, 5);
 //!
-//! // The smuggler trades at the harbour.
-//! let request = Request { subject: 2, resource: 0, action: 0 };
+//! // The captain and the smuggler trade at the harbour together.
+//! let subjects = Subjects::of([1, 2]).unwrap();
+//! let request = JointRequest { subjects, resource: 0, action: 0 };
 //! let mut cards = [0; MOST_CARDS];
 //! let ruling = kolfsein::rule(&table, request, &mut cards)?;
-//! assert_eq!(ruling.decision, Decision::Deny);
-//! assert_eq!(cards[..ruling.count], [10, 20]);
-//!
-//! // The same by the diagram.
-//! let mut diagram = vec![0; MOST_PLACES];
-//! let used = kolfsein::build(&table, &mut diagram)?;
-//! assert_eq!(used, 63);
-//! assert_eq!(kolfsein::look_up(&diagram[..used], request, &mut cards)?, ruling);
+//! assert_eq!((ruling.decision, ruling.subjects), (Decision::Deny, 2));
 //! assert_eq!(cards[..ruling.count], [10, 20]);
 //!
 //! // There is no subject 3.
-//! let nobody = Request { subject: 3, ..request };
-//! let refusal = kolfsein::rule(&table, nobody, &mut cards).unwrap_err();
-//! assert_eq!((refusal.reason, refusal.place), (Reason::Value, 0));
+//! let subjects = Subjects::of([1, 3]).unwrap();
+//! let refusal = kolfsein::rule(&table, JointRequest { subjects, ..request }, &mut cards).unwrap_err();
+//! assert_eq!((refusal.reason, refusal.place), (Reason::Subjects, 0));
 //! assert_eq!(cards, [0; MOST_CARDS]);
+//!
+//! // The captain alone, by the diagram.
+//! let mut diagram = vec![0; MOST_PLACES];
+//! let used = kolfsein::build(&table, &mut diagram)?;
+//! assert_eq!(used, 63);
+//! let request = Request { subject: 1, resource: 0, action: 0 };
+//! let ruling = kolfsein::look_up(&diagram[..used], request, &mut cards)?;
+//! assert_eq!(ruling.decision, Decision::Permit);
+//! assert_eq!(cards[..ruling.count], [10]);
 //! # Ok::<(), kolfsein::Refusal>(())
 //! ```
 
@@ -53,9 +60,11 @@
 mod c;
 mod refusal;
 mod ruling;
+mod subjects;
 
 pub use refusal::{Reason, Refusal};
-pub use ruling::{Decision, Request, Ruling};
+pub use ruling::{Decision, JointRequest, JointRuling, Request, Ruling};
+pub use subjects::{Members, Subjects};
 
 /// No ruling has more cards than this: a list of so many places is never too short.
 ///
@@ -98,19 +107,29 @@ pub fn read(table: &[u8]) -> Result<usize, Refusal> {
     answer.counted()
 }
 
-/// Rules on a request by a table's groups: the decision, and how many rules match. The list then holds the cards of
-/// all matching rules in table order, once for each rule, and 0 in every place after them.
+/// Rules by a table's groups on subjects that ask together: the decision, how many rules match, and how many subjects
+/// ask. The list then holds the cards of all matching rules in table order, once for each rule, and 0 in every place
+/// after them.
+///
+/// A node applies to the set exactly where at least one member by itself meets its target and every target above it; a
+/// rule that applies matches, and groups combine what their children give. So a set of one subject is ruled as that
+/// subject, while the ruling on several does not follow from those on each.
 ///
 /// ```
-/// use kolfsein::{Decision, Reason, Request};
+/// use kolfsein::{Decision, JointRequest, Reason, Subjects};
 ///
-/// // One permit rule, with card 10, for every subject and resource up to 2 and 1, and for action 0.
-/// let table = [0, 17, 1, 2, 1, 1, 0, 1, 4, 0, 1, 0, 10, 0, 2, 0, 1, 0, 0];
-/// let request = Request { subject: 2, resource: 1, action: 0 };
+/// // One permit rule, with card 10, for subjects 1 and 2 of 0 to 2, for every resource up to 1, and for action 0.
+/// let table = [0, 17, 1, 2, 1, 1, 0, 1, 4, 0, 1, 0, 10, 1, 2, 0, 1, 0, 0];
+/// let subjects = Subjects::of([0, 1]).unwrap();
+/// let request = JointRequest { subjects, resource: 1, action: 0 };
 /// let mut cards = [7; 3];
 /// let ruling = kolfsein::rule(&table, request, &mut cards)?;
-/// assert_eq!((ruling.decision, ruling.count), (Decision::Permit, 1));
+/// assert_eq!((ruling.decision, ruling.count, ruling.subjects), (Decision::Permit, 1, 2));
 /// assert_eq!(cards, [10, 0, 0]);
+///
+/// let subjects = Subjects::only(0).unwrap();
+/// let ruling = kolfsein::rule(&table, JointRequest { subjects, ..request }, &mut cards)?;
+/// assert_eq!((ruling.decision, ruling.count, ruling.subjects), (Decision::NotApplicable, 0, 1));
 ///
 /// let refusal = kolfsein::rule(&table, request, &mut []).unwrap_err();
 /// assert_eq!(refusal.reason, Reason::ListTooShort);
@@ -119,15 +138,20 @@ pub fn read(table: &[u8]) -> Result<usize, Refusal> {
 ///
 /// # Errors
 ///
-/// The first refusal in this order: those of [`read`], then [`Value`](Reason::Value), then
-/// [`ListTooShort`](Reason::ListTooShort). The list is then all 0.
-pub fn rule(table: &[u8], request: Request, cards: &mut [u16]) -> Result<Ruling, Refusal> {
+/// The first refusal in this order: those of [`read`], then [`Subjects`](Reason::Subjects), then
+/// [`Value`](Reason::Value), of the resource or the action, then [`ListTooShort`](Reason::ListTooShort). The list is
+/// then all 0.
+pub fn rule(
+    table: &[u8],
+    request: JointRequest,
+    cards: &mut [u16],
+) -> Result<JointRuling, Refusal> {
     // SAFETY: each slice's pointer is valid for its length, and a list that is lent to be written overlaps nothing.
     let answer = unsafe {
         c::kolfsein_rule(
             table.as_ptr(),
             table.len(),
-            request.subject,
+            request.subjects.bits(),
             request.resource,
             request.action,
             cards.as_mut_ptr(),
@@ -138,8 +162,9 @@ pub fn rule(table: &[u8], request: Request, cards: &mut [u16]) -> Result<Ruling,
 }
 
 /// Builds the decision diagram of a table into the places lent: how many it uses. The places then hold the diagram,
-/// and 0 after it. It rules as the table's groups do on every request within the table's maxima. Two tables with the
-/// same maxima have equal diagrams, number for number, exactly where they rule alike, cards included.
+/// and 0 after it. It rules as the table's groups do on every request of one subject within the table's maxima. Two
+/// tables with the same maxima have equal diagrams, number for number, exactly where they rule alike on all these, cards
+/// included; they may still rule otherwise on several subjects that ask together.
 ///
 /// ```
 /// use kolfsein::Reason;
@@ -172,8 +197,8 @@ pub fn build(table: &[u8], diagram: &mut [u16]) -> Result<usize, Refusal> {
     answer.counted()
 }
 
-/// Rules on a request by a diagram: the decision, and how many cards, both of the terminal that the request reaches.
-/// The list then holds the terminal's cards, and 0 in every place after them.
+/// Rules on a request of one subject by a diagram: the decision, and how many cards, both of the terminal that the
+/// request reaches. The list then holds the terminal's cards, and 0 in every place after them.
 ///
 /// A diagram may come from anyone: each call sees whether it is sound, in one pass over the places that it uses, so it
 /// takes longer than [`rule`] unless the diagram is small for its table. What stands after those places makes no
@@ -216,5 +241,5 @@ pub fn look_up(diagram: &[u16], request: Request, cards: &mut [u16]) -> Result<R
             cards.len(),
         )
     };
-    answer.ruled()
+    answer.looked_up()
 }

@@ -48,7 +48,8 @@ pub enum Reason {
     Range = 7,
     /// A rule has card 0, or a group has another.
     Card = 8,
-    /// A value of the request is over its field's maximum; the first such field.
+    /// A value of the request is over its field's maximum; the first such field: 0 subject (of
+    /// [`look_up`](crate::look_up) only), 1 resource, 2 action.
     Value = 9,
     /// The list is shorter than the cards.
     ListTooShort = 10,
@@ -56,6 +57,8 @@ pub enum Reason {
     Room = 11,
     /// The diagram is not sound.
     Diagram = 12,
+    /// The set of subjects is empty, or has one over the table's maximum.
+    Subjects = 13,
 }
 
 impl fmt::Display for Refusal {
@@ -89,6 +92,7 @@ impl fmt::Display for Reason {
             Reason::ListTooShort => "the list is shorter than the cards",
             Reason::Room => "the diagram needs over 32,768 places or more than lent",
             Reason::Diagram => "the diagram is not sound",
+            Reason::Subjects => "the set of subjects is empty, or has one over the maximum",
         })
     }
 }

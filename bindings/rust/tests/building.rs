@@ -1,13 +1,15 @@
 //! Building a diagram, and ruling by it and by the table, for every request.
 
 use crate::compare::Compare;
-use crate::evaluator::{self, every_request, Due, Table, FIELDS, MOST_PLACES};
+use crate::evaluator::{self, every_request, Due, Joint, Table, FIELDS, MOST_PLACES};
 use crate::generator::{accepted_table, damaged_table, small_maxima};
 use crate::generator::{all_different, each_place, empty_root, spread, staircase};
-use crate::generator::{lists, some_requests, Outline, Random, HARBOUR, RULEBOOK};
+use crate::generator::{lists, some_joint_requests, some_requests};
+use crate::generator::{Outline, Random, HARBOUR, RULEBOOK};
 
-/// Builds a table's diagram in rooms about what it takes, and in others. Then every request within the maxima, and some
-/// over them, are ruled on by the groups and by the diagram.
+/// Builds a table's diagram in rooms about what it takes, and in others. Then every request within the maxima is ruled
+/// on by the groups, for the set of its one subject, and by the diagram; some over the maxima are by the diagram, and
+/// some of sets by the groups.
 fn builds(compare: &mut Compare, random: &mut Random, bytes: &[u8]) {
     let table = Table::read(bytes);
     let walked = evaluator::walk(&table);
@@ -21,19 +23,27 @@ fn builds(compare: &mut Compare, random: &mut Random, bytes: &[u8]) {
     let Ok(table) = table else { return };
     let maxima = table.maxima.map(|most| most as u8);
     for values in every_request(table.maxima).chain(some_requests(random, maxima, &[], 8)) {
-        let ruled = table.rule(values);
+        let ruled = table.rule_one(values);
         let places = random.of(&lists(&ruled));
-        compare.rules_with(bytes, values, &ruled, [places]);
+        // "A party of one is ruled as that figure."
+        if let Some(joint) = Joint::only(values).filter(|_| ruled.is_ok()) {
+            compare.rules_with(bytes, &joint, &ruled, [places]);
+        }
         if used <= MOST_PLACES {
             compare.looks_up_with(&diagram, values, &ruled, [places]);
         }
+    }
+    for joint in some_joint_requests(random, maxima, &[], 8) {
+        let ruled = table.rule(&joint);
+        let places = random.of(&lists(&ruled));
+        compare.rules_with(bytes, &joint, &ruled, [places]);
     }
 }
 
 #[test]
 fn generated_tables() {
     let mut compare = Compare::new("building generated tables");
-    for seed in 0..2_500 {
+    for seed in 0..2_800 {
         compare.case("seed", seed);
         let mut random = Random::new(seed);
         let maxima = small_maxima(&mut random);
@@ -44,7 +54,7 @@ fn generated_tables() {
         builds(&mut compare, &mut random, &bytes);
     }
     compare.every_decision(50_000);
-    compare.end(250_000_000, [0, 9, 10, 11], 3_000);
+    compare.end(235_000_000, [0, 9, 10, 11, 13], 2_000);
 }
 
 /// The examples, T with each byte at some values, T under one more root and an empty root, both of each kind, and nodes
@@ -85,5 +95,5 @@ fn small_tables_and_the_largest() {
         compare.same("the walk's length", walked.map_or(0, |w| w.len()), places);
         builds(&mut compare, &mut random, &bytes);
     }
-    compare.end(30_000_000, [0, 9, 10, 11], 300);
+    compare.end(30_000_000, [0, 9, 10, 11, 13], 200);
 }

@@ -1,7 +1,7 @@
 //! Slices whose lengths 8 or 16 bits do not hold.
 
 use crate::compare::Compare;
-use crate::evaluator::{self, Diagram, Due, Table, Values, MOST_PLACES};
+use crate::evaluator::{self, Diagram, Due, Joint, Table, Values, MOST_PLACES};
 use crate::generator::HARBOUR;
 
 /// Cut to 8 or 16 bits they are 0, or 63 as the lengths of T and of its diagram are.
@@ -14,18 +14,19 @@ const VALUES: Values = [2, 0, 0];
 fn long_slices() {
     let mut compare = Compare::new("long slices");
     let table = Table::read(HARBOUR);
-    let ruled = evaluator::rule(&table, VALUES);
+    let joint = Joint::only(VALUES).expect("a subject of a set");
+    let ruled = evaluator::rule(&table, &joint);
     let walked = evaluator::walk(&table);
     let diagram = Due::built(&walked, MOST_PLACES).numbers;
     for length in LENGTHS {
         compare.case("length", length);
-        compare.rules_with(HARBOUR, VALUES, &ruled, [length]);
+        compare.rules_with(HARBOUR, &joint, &ruled, [length]);
         compare.builds_in(HARBOUR, &walked, [length]);
         // a table is refused for what follows it
         let longer = [HARBOUR, &vec![0; length - HARBOUR.len()]].concat();
         let due = Due::read(&Table::read(&longer));
         compare.reads(&longer, &due);
-        compare.rules(&longer, VALUES, 2, &due);
+        compare.rules(&longer, &joint, 2, &due);
         compare.builds(&longer, 63, &due);
         // a diagram is not
         let longer = [&diagram[..], &vec![1; length - diagram.len()]].concat();

@@ -13,4 +13,6 @@ mod pairs;
 mod reading;
 mod refusals;
 mod ruling;
+mod sets;
+mod subjects;
 mod vectors;

@@ -1,10 +1,11 @@
-//! Pairs of tables, the second made from the first by one change: their diagrams are equal exactly where they rule alike.
+//! Pairs of tables, the second made from the first by one change: their diagrams are equal exactly where they rule alike
+//! on every subject by itself. Tables that do may still rule otherwise on a set.
 
 use std::fmt;
 
 use crate::compare::Compare;
-use crate::evaluator::{self, Due, Table};
-use crate::generator::{accepted_table, small_maxima, small_table, HARBOUR};
+use crate::evaluator::{self, Due, Joint, Ruled, Table, MOST_SUBJECTS, OTHERS};
+use crate::generator::{accepted_table, permit_and_deny, small_maxima, small_table, HARBOUR};
 use crate::generator::{Moves, Outline, Random, CHANGES};
 
 /// How many pairs of accepted tables are compared for each change, how many are drawn at most, and how many rule alike
@@ -47,7 +48,7 @@ impl fmt::Display for Tally {
 }
 
 /// Reads a table and builds its diagram in exactly the room that it takes: both, where it is not refused.
-fn builds(compare: &mut Compare, bytes: &[u8]) -> Option<(Table, Vec<u16>)> {
+pub fn builds(compare: &mut Compare, bytes: &[u8]) -> Option<(Table, Vec<u16>)> {
     let table = Table::read(bytes);
     compare.reads(bytes, &Due::read(&table));
     let walked = evaluator::walk(&table);
@@ -103,4 +104,39 @@ fn equal_exactly_where_alike() {
         assert!(tally.is_right(moves), "{name}: {tally}");
     }
     compare.end(1_000_000, [0], 10_000);
+}
+
+/// Two rules in either order: the diagrams are equal, and the rulings on a set that has both subjects are not.
+fn exchanges(compare: &mut Compare, [permit, deny]: [u16; 2]) {
+    let table = permit_and_deny(permit as u8, deny as u8);
+    let mut exchanged = table.clone();
+    exchanged.nodes.swap(1, 2);
+    let mut diagrams = Vec::new();
+    for (outline, decision, cards) in [(table, 1, [10, 20]), (exchanged, 2, [20, 10])] {
+        let bytes = outline.bytes();
+        let (table, diagram) = builds(compare, &bytes).expect("a small diagram");
+        diagrams.push(diagram);
+        let cards = cards.to_vec();
+        let ruled = Ok(Ruled { decision, cards });
+        for members in [vec![permit, deny], (0..MOST_SUBJECTS).collect()] {
+            let joint = Joint::new(members, [0; OTHERS]);
+            compare.same("what the evaluator gives", &table.rule(&joint), &ruled);
+            compare.rules_with(&bytes, &joint, &ruled, [2]);
+        }
+    }
+    compare.same("the second diagram", &diagrams[1], &diagrams[0]);
+}
+
+/// "two tables with equal diagrams may still rule a party differently, as when a may card for figure 0 and a may not card
+/// for figure 1 change places in a "first" group": here for each two subjects.
+#[test]
+fn exchanged_rules() {
+    let mut compare = Compare::new("exchanged rules");
+    for permit in 0..MOST_SUBJECTS {
+        for deny in (0..MOST_SUBJECTS).filter(|&deny| deny != permit) {
+            compare.case("subjects", (100 * permit + deny).into());
+            exchanges(&mut compare, [permit, deny]);
+        }
+    }
+    compare.end(800_000, [0], 30_000);
 }

@@ -1,19 +1,21 @@
 //! Reading, and that a table's refusal comes before all others of a call.
 
 use crate::compare::Compare;
-use crate::evaluator::{Due, Table, FIELDS};
+use crate::evaluator::{Due, Joint, Table, MOST_SUBJECTS, OTHERS};
 use crate::generator::{accepted_table, any_maxima, chain, damaged_table, nested};
 use crate::generator::{each_length, each_place, each_span, state_length, Random, HARBOUR};
 
-/// Reads a table: whether it is accepted. Where it is not, a ruling and a build refuse it too, before a value over its
-/// maximum, a list that is too short and a room that is.
+/// Reads a table: whether it is accepted. Where it is not, a ruling and a build refuse it too, before an empty set or
+/// one with subjects over their maximum, a value over its maximum, a list that is too short and a room that is.
 fn reads(compare: &mut Compare, number: usize, bytes: &[u8]) -> bool {
     compare.case("table", number);
     let table = Table::read(bytes);
     let due = Due::read(&table);
     compare.reads(bytes, &due);
     if table.is_err() {
-        compare.rules(bytes, [256; FIELDS], number % 4, &due);
+        let members = [0, MOST_SUBJECTS][number % 2];
+        let joint = Joint::new(0..members, [256; OTHERS]);
+        compare.rules(bytes, &joint, number % 4, &due);
         compare.builds(bytes, number % 100, &due);
     }
     table.is_ok()

@@ -2,9 +2,9 @@
 
 use std::error::Error;
 
-use kolfsein::{build, look_up, read, rule, Reason, Refusal, Request};
+use kolfsein::{build, look_up, read, rule, JointRequest, Reason, Refusal, Request, Subjects};
 
-const REASONS: [Reason; 12] = [
+const REASONS: [Reason; 13] = [
     Reason::Length,
     Reason::Version,
     Reason::NodeCount,
@@ -17,6 +17,7 @@ const REASONS: [Reason; 12] = [
     Reason::ListTooShort,
     Reason::Room,
     Reason::Diagram,
+    Reason::Subjects,
 ];
 
 #[test]
@@ -44,12 +45,17 @@ fn empty_slices() {
         resource: 0,
         action: 0,
     };
+    let joint = JointRequest {
+        subjects: Subjects::from_bits(1),
+        resource: 0,
+        action: 0,
+    };
     let refused = |reason| Refusal { reason, place: 0 };
     let one_rule = [0, 17, 1, 0, 0, 0, 0, 1, 4, 0, 1, 0, 10, 0, 0, 0, 0, 0, 0];
     let too_short = refused(Reason::ListTooShort);
     assert_eq!(read(&[]), Err(refused(Reason::Length)));
-    assert_eq!(rule(&[], request, &mut []), Err(refused(Reason::Length)));
-    assert_eq!(rule(&one_rule, request, &mut []), Err(too_short));
+    assert_eq!(rule(&[], joint, &mut []), Err(refused(Reason::Length)));
+    assert_eq!(rule(&one_rule, joint, &mut []), Err(too_short));
     assert_eq!(build(&[], &mut []), Err(refused(Reason::Length)));
     assert_eq!(build(&one_rule, &mut []), Err(refused(Reason::Room)));
     assert_eq!(

@@ -5,22 +5,22 @@ use std::collections::BTreeMap;
 use std::str::FromStr;
 
 use crate::compare::Compare;
-use crate::evaluator::{self, Diagram, Due, Table, Values};
+use crate::evaluator::{self, Diagram, Due, Joint, Table, Values, MOST_SUBJECTS};
 
 const VECTORS: &str = include_str!("../../../crates/cases/stdin");
 
 /// How many cases there are of each call at least.
 const LEAST: [(&str, usize); 4] = [
     ("read", 150),
-    ("rule", 200),
+    ("rule", 400),
     ("build", 60),
     ("look_up", 300),
 ];
 
-/// A call with its input, the values that are asked, and how many places are lent.
+/// A call with its input, what is asked, and how many places are lent.
 enum Call {
     Read(Vec<u8>),
-    Rule(Vec<u8>, Values, usize),
+    Rule(Vec<u8>, Joint, usize),
     Build(Vec<u8>, usize),
     LookUp(Vec<u16>, Values, usize),
 }
@@ -39,9 +39,9 @@ impl Call {
     fn evaluated(&self) -> Due {
         match self {
             Call::Read(bytes) => Due::read(&Table::read(bytes)),
-            Call::Rule(bytes, values, places) => {
-                let ruled = evaluator::rule(&Table::read(bytes), *values);
-                Due::listed(&ruled, *places)
+            Call::Rule(bytes, joint, places) => {
+                let ruled = evaluator::rule(&Table::read(bytes), joint);
+                Due::ruled(&ruled, joint, *places)
             }
             Call::Build(bytes, places) => {
                 let walked = evaluator::walk(&Table::read(bytes));
@@ -57,7 +57,7 @@ impl Call {
     fn compare(&self, compare: &mut Compare, due: &Due) {
         match self {
             Call::Read(bytes) => compare.reads(bytes, due),
-            Call::Rule(bytes, values, places) => compare.rules(bytes, *values, *places, due),
+            Call::Rule(bytes, joint, places) => compare.rules(bytes, joint, *places, due),
             Call::Build(bytes, places) => {
                 compare.builds(bytes, *places, due);
             }
@@ -111,12 +111,18 @@ impl Starts {
     fn call(&self, call: &str, changes: &str) -> Option<Call> {
         let table = || changed(&self.table, changes);
         let diagram = || changed(&self.diagram, changes);
+        if let Some(asked) = call.strip_prefix("rule {") {
+            let (set, others) = asked.split_once("} ")?;
+            let words: Vec<&str> = others.split(' ').collect();
+            let [resource, action, "list", places] = words[..] else {
+                return None;
+            };
+            let joint = Joint::new(members(set)?, [number(resource)?, number(action)?]);
+            return Some(Call::Rule(table()?, joint, number(places)?));
+        }
         let words: Vec<&str> = call.split(' ').collect();
         Some(match words[..] {
             ["read"] => Call::Read(table()?),
-            ["rule", ref asked @ .., "list", places] => {
-                Call::Rule(table()?, values(asked)?, number(places)?)
-            }
             ["build", "room", places] => Call::Build(table()?, number(places)?),
             ["look_up", ref asked @ .., "list", places] => {
                 Call::LookUp(diagram()?, values(asked)?, number(places)?)
@@ -141,7 +147,7 @@ fn changed<T: Copy + Default + FromStr>(numbers: &[T], changes: &str) -> Option<
 
 fn due(answer: &str, written: &str) -> Option<Due> {
     let answer: Vec<usize> = numbers_in(answer)?;
-    let [number, place, decision, count] = answer[..] else {
+    let [number, place, decision, count, subjects] = answer[..] else {
         return None;
     };
     let numbers: Vec<u16> = numbers_in(written)?;
@@ -153,6 +159,7 @@ fn due(answer: &str, written: &str) -> Option<Due> {
         place,
         decision: decision.try_into().ok()?,
         count,
+        subjects,
         numbers,
     })
 }
@@ -160,6 +167,13 @@ fn due(answer: &str, written: &str) -> Option<Due> {
 fn values(words: &[&str]) -> Option<Values> {
     let values: Option<Vec<u16>> = words.iter().map(|word| number(word)).collect();
     values?.try_into().ok()
+}
+
+/// The members of a set, a space between two.
+fn members(text: &str) -> Option<Vec<u16>> {
+    let words = text.split(' ').filter(|_| !text.is_empty());
+    let member = |word| number(word).filter(|&member| member < MOST_SUBJECTS);
+    words.map(member).collect()
 }
 
 /// Decimal numbers, parted by spaces and commas.
@@ -196,5 +210,5 @@ fn every_line() {
     for (call, least) in LEAST {
         assert!(counts[call] >= least, "too few cases of {call}");
     }
-    compare.end(10_000, 0..=12, 3);
+    compare.end(10_000, 0..=13, 3);
 }

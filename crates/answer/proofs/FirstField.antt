@@ -3,13 +3,14 @@
 use mathlib.Core.Path.{_≡_, refl, sym, ap, _∙_}
 use mathlib.Core.Bool.{Bool, true, false, cond}
 use mathlib.Core.Logic.{⊎-elim}
-use mathlib.Core.List.{List}
+use mathlib.Core.List.{List, _++_}
 use Prim.Native.Nat.{ℕ, zero, suc, _+_, _-_, _≤_, _<_}
 use native.Mathlib.Nat.{eq-or-lt-of-le}
 use native.Mathlib.Omega.{arith}
 use borrow.Author.Tests.{lt-ltb, le-ltb, ltb-true, ltb-false}
 use lib.Dec.{ltb}
 use Rattle.answer.specs.Fields.{fields}
+use Rattle.answer.specs.Answers.{zeros}
 use Rattle.answer.specs.Requests.{value, Within, valueFault, firstFrom, fieldFault}
 
 module _ (p : ℕ → Bool) where
@@ -91,6 +92,12 @@ module _ (maximum : ℕ → ℕ) (q : List ℕ) where
   pub none-over-within : fields ≤ fieldFault maximum q 0 → Within maximum q
   none-over-within h f l = ltb-false (maximum f) (value q f) (none-over 0 (omega arith) h f (omega arith) l)
 
+-- values that stand for the fields from a given one on
+pub value-after : (q : List ℕ) (from f : ℕ) → from ≤ f → value (zeros from ++ q) f ≡ value q (f - from)
+value-after q zero f l = let z : f ≡ f - 0 = omega arith in ap (value q) z
+value-after q (suc from) zero l = absurd (omega arith)
+value-after q (suc from) (suc f) l = let z : f - from ≡ suc f - suc from = omega arith in value-after q from f (omega arith) ∙ ap (value q) z
+
 module _ (maximum : ℕ → ℕ) (q : List ℕ) (from : ℕ) where
   -- the search for a faulty field stands at field f
   abbrev pub Searched : ℕ → Type 0
@@ -100,12 +107,12 @@ module _ (maximum : ℕ → ℕ) (q : List ℕ) (from : ℕ) where
   unfolding fieldFault
   search-starts = refl
 
-  pub field-found : (f m : ℕ) → f < fields → m ≡ maximum f → m < value q f → Searched f → f ≡ fieldFault maximum q from
-  field-found f m l e h s =
+  pub field-found : (f m v : ℕ) → f < fields → m ≡ maximum f → v ≡ value q f → m < v → Searched f → f ≡ fieldFault maximum q from
+  field-found f m v l e ev h s =
       sym (s ∙ search-more (valueFault maximum q) f fields true l (lt-ltb (maximum f) (value q f) (omega arith)))
 
-  pub field-passed : (f m : ℕ) → f < fields → m ≡ maximum f → value q f ≤ m → Searched f → Searched (f + 1)
-  field-passed f m l e h s =
+  pub field-passed : (f m v : ℕ) → f < fields → m ≡ maximum f → v ≡ value q f → v ≤ m → Searched f → Searched (f + 1)
+  field-passed f m v l e ev h s =
       s ∙ search-more (valueFault maximum q) f fields false l (le-ltb (maximum f) (value q f) (omega arith))
 
   pub no-field : (f : ℕ) → f ≡ fields → Searched f → fields ≡ fieldFault maximum q from

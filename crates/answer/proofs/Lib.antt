@@ -1,5 +1,6 @@
 -- Laws of what every call shares.
 pub mod Tests
+pub mod Below
 pub mod FirstField
 pub mod RequestsInOrder
 pub mod Settling

@@ -1,4 +1,5 @@
 pub mod Fields
+pub mod Below
 pub mod Answers
 pub mod Refusals
 pub mod Requests

@@ -15,6 +15,10 @@ value q f = getD q f 0
 abbrev pub Within : (ℕ → ℕ) → List ℕ → Type 0
 Within maximum q = (f : ℕ) → f < fields → value q f ≤ maximum f
 
+-- of these, the fields from a given one on
+abbrev pub WithinFrom : (ℕ → ℕ) → List ℕ → ℕ → Type 0
+WithinFrom maximum q from = (f : ℕ) → from ≤ f → f < fields → value q f ≤ maximum f
+
 -- of 9: "value over its maximum", in field f
 abbrev pub valueFault : (ℕ → ℕ) → List ℕ → ℕ → Bool
 valueFault maximum q f = ltb (maximum f) (value q f)

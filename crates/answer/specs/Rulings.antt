@@ -23,17 +23,18 @@ valueRefusals maximum q from = upward (λ f. row 9 f (valueFault maximum q f) �
 abbrev pub listRefusal : Ruling → ℕ → Refusal
 listRefusal r n = row 10 0 (ltb n (length (r .cards)))
 
--- "then 9, 10 for a question": of request q, where r is the ruling and the list has n places
-abbrev pub requestRefusals : (ℕ → ℕ) → List ℕ → Ruling → ℕ → List Refusal
-requestRefusals maximum q r n = valueRefusals maximum q 0 ++ (listRefusal r n ∷ [])
+-- "then 9, 10 for a question": of request q, by its fields from a given one on, where r is the ruling and the list has n places
+abbrev pub requestRefusals : (ℕ → ℕ) → List ℕ → ℕ → Ruling → ℕ → List Refusal
+requestRefusals maximum q from r n = valueRefusals maximum q from ++ (listRefusal r n ∷ [])
 
--- "A ruling has number 0 and place 0", "A ruling's count is its cards": the answer that gives the ruling r
-abbrev pub answerOf : Ruling → Answer
-answerOf r = ruled (r .decision) (length (r .cards))
+-- "A ruling has number 0 and place 0", "A ruling's count is its cards": the answer that gives the ruling r to a set of so many subjects,
+-- 0 where no set is asked
+abbrev pub answerOf : Ruling → ℕ → Answer
+answerOf r subjects = ruled (r .decision) (length (r .cards)) subjects
 
 -- the answer of a call with these refusals that gives the ruling r
-abbrev pub ruledOr : List Refusal → Ruling → Answer
-ruledOr refusals r = settled refused (answerOf r) refusals
+abbrev pub ruledOr : List Refusal → Ruling → ℕ → Answer
+ruledOr refusals r subjects = settled refused (answerOf r subjects) refusals
 
 -- "zeros in the whole lent list" of a refusal, else these numbers and then "zeros to the list's end", of n places
 abbrev pub listedOr : List Refusal → List ℕ → ℕ → List ℕ

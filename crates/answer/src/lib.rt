@@ -1,6 +1,7 @@
 // What every call shares: the answer it hands back, the request it is asked, and a lent list that is cleared.
 ghost use mathlib.Core.Path.{_≡_};
-ghost use Prim.Native.Nat.{_≤_};
+ghost use mathlib.Core.List.{_++_};
+ghost use Prim.Native.Nat.{_+_, _≤_};
 ghost use lib.ListN.{length};
 ghost use lib.Seq.{sets};
 ghost use Rattle.answer.specs.Fields.{fields};
@@ -10,13 +11,18 @@ ghost use Rattle.answer.specs.Requests.{value, fieldFault};
 // How many fields a request has: subject, resource, action.
 pub const FIELDS: usize = 3;
 
-// A refusal's number and place; or number 0 and place 0, with the decision and the count.
+// How many fields there are beside the subject.
+pub const OTHERS: usize = FIELDS - 1;
+
+// A refusal's number and place; or number 0 and place 0, with the decision and the count, and with how many subjects a set has that
+// was ruled on.
 #[repr(C)]
 pub struct Answer {
     pub number: u8,
     pub decision: u8,
     pub place: usize,
     pub count: usize,
+    pub subjects: usize,
 }
 
 impl Answer {
@@ -29,6 +35,7 @@ impl Answer {
             decision: 0,
             place: 0,
             count: 0,
+            subjects: 0,
         }
     }
 
@@ -51,12 +58,13 @@ impl Answer {
         answer
     }
 
-    // The answer of a ruling.
-    pub fn ruled(decision: u8, count: usize) -> Self
-        ensures { λ r. ⌜ r ≡ ruled decision count ⌝ }
+    // The answer of a ruling: its decision, its count of cards, and how many subjects a set has that was ruled on.
+    pub fn ruled(decision: u8, count: usize, subjects: usize) -> Self
+        ensures { λ r. ⌜ r ≡ ruled decision count subjects ⌝ }
     {
         let mut answer = Self::counted(count);
         answer.decision = decision;
+        answer.subjects = subjects;
         answer
     }
 }
@@ -66,14 +74,21 @@ pub struct Request {
     pub values: [u16; FIELDS],
 }
 
-// Refusal 9: the first field, from a given one on, whose value is over its maximum, or FIELDS.
-pub fn field_fault(maxima: &[u16], values: &[u16; FIELDS], from: usize) -> usize
-    requires { ⌜ (fields ≤ length (now maxima)) × (from ≤ fields) ⌝ }
-    ensures { λ r. ⌜ r ≡ fieldFault (value (now (maxima .entry))) (now (values .entry)) from ⌝ }
+// A set of subjects that ask together, subject k as bit k, and one value for each other field, in field order.
+pub struct JointRequest {
+    pub subjects: u64,
+    pub others: [u16; OTHERS],
+}
+
+// Refusal 9: the first field, from a given one on, whose value is over its maximum, or FIELDS. The values are those of the fields
+// from that one on.
+pub fn field_fault(maxima: &[u16], values: &[u16], from: usize) -> usize
+    requires { ⌜ (fields ≤ length (now maxima)) × (from + length (now values) ≡ fields) ⌝ }
+    ensures { λ r. ⌜ r ≡ fieldFault (value (now (maxima .entry))) (zeros from ++ now (values .entry)) from ⌝ }
 {
     let mut field = from;
     while field < FIELDS {
-        if maxima[field] < values[field] {
+        if maxima[field] < values[field - from] {
             return field;
         }
         field += 1;

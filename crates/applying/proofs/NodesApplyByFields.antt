@@ -12,7 +12,8 @@ use Rattle.answer.specs.Fields.{fields}
 use Rattle.answer.specs.Requests.{value}
 use Rattle.table.specs.Layout.{count}
 use Rattle.table.specs.WellFormed.{WellFormed}
-use Rattle.ruling.specs.Targets.{everyBelow, targetHolds, applies}
+use Rattle.answer.specs.Below.{everyBelow}
+use Rattle.ruling.specs.Targets.{targetHolds, applies}
 use Rattle.ruling.specs.Ruling.{groups}
 use Rattle.ruling.proofs.RulingGoesByWhichApply.{meaning-same}
 use Rattle.ruling.proofs.Throughout.{throughout, throughout-true, throughout-and}

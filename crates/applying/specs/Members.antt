@@ -7,7 +7,8 @@ use lib.Dec.{ltb}
 use Rattle.answer.specs.Rulings.{Ruling}
 use Rattle.table.specs.Layout.{low, high, count}
 use Rattle.table.specs.Tree.{endOf}
-use Rattle.ruling.specs.Targets.{everyBelow, inRange}
+use Rattle.answer.specs.Below.{everyBelow}
+use Rattle.ruling.specs.Targets.{inRange}
 use Rattle.ruling.specs.Meaning.{meaning}
 
 -- "low and high [..], both ends included": value v lies in node i's range of field f

@@ -16,7 +16,7 @@ use Rattle.answer.proofs.Settling.{all-join, all-parts, first-in, first-after, 
 use Rattle.table.specs.Layout.{maxima}
 use Rattle.table.specs.Reading.{tableRefusals, Accepted}
 use Rattle.table.proofs.Accepting.{table-numbered}
-use Rattle.table.proofs.Tests.{neither}
+use Rattle.answer.proofs.Tests.{neither}
 use Rattle.ruling.specs.Ruling.{groups}
 use Rattle.diagram.specs.Layout.{mostPlaces, used}
 use Rattle.diagram.proofs.DiagramHeader.{diagram-used}

@@ -25,7 +25,7 @@ module _ (t tail : List ℕ) (b : Bytes t) (c : Accepted t) (most : length (diag
     (q : List ℕ) (n : ℕ) (e : length q ≡ fields) (w : Within (maximum t) q) (long : length (groups t q .cards) ≤ n) where
   -- the answer and the list: what the groups give, and zeros after the cards
   pub built-answers :
-      (lookedUp (diagramOf t ++ tail) q n ≡ answerOf (groups t q))
+      (lookedUp (diagramOf t ++ tail) q n ≡ answerOf (groups t q) 0)
       × (lookedUpList (diagramOf t ++ tail) q n ≡ padded (groups t q .cards) n)
   built-answers =
       walked-diagram-answers (maxima t) (groups t) tail (maxima-length t) (λ i l. maxima-bytes t b i (omega (arith, maxima-length t)))

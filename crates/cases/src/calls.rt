@@ -1,8 +1,13 @@
 // The calls that a case can make, and what the library answers to them.
 use crate::input;
+use crate::numbers::number;
 use crate::numbers::wide;
+use crate::text::between;
+use crate::text::find;
 use crate::text::scan;
 use answer::Answer;
+use answer::JointRequest;
+use answer::OTHERS;
 use answer::Request;
 
 // Room for more bytes than a table has, and for more places than a diagram has.
@@ -24,34 +29,43 @@ pub(crate) const CALLS: usize = 4;
 // The number of the answer where a case does not say what is asked.
 pub(crate) const NOT_ASKED: u8 = 255;
 
-// A call, the values of its request, and how many places it is lent.
+// How many subjects a set can have.
+const MOST: usize = 64;
+
+// A call, the set of subjects or the one subject that it asks about, the values of the other fields, and how many places it
+// is lent.
 pub(crate) struct Call {
     pub which: usize,
-    pub values: [u16; 3],
+    pub subjects: u64,
+    pub subject: u16,
+    pub others: [u16; OTHERS],
     pub places: usize,
+}
+
+// A set of subjects, and whether a text says it.
+struct Said {
+    understood: bool,
+    subjects: u64,
 }
 
 // The call that a text says.
 pub(crate) fn named(text: &[u8]) -> Call {
     let mut list = [0; 4];
-    let mut which = 0;
-    while which < CALLS {
-        if says(which, text, &mut list) {
-            return made(which, list);
-        }
-        which += 1;
+    if is_worded(text, b" read", 0, &mut list) {
+        return made(READ, 0, [0, 0, 0, 0]);
     }
-    made(CALLS, list)
-}
-
-// Whether a text says a call, with its numbers in a list.
-fn says(which: usize, text: &[u8], list: &mut [u16; 4]) -> bool {
-    match which {
-        READ => is_worded(text, b" read", 0, list),
-        RULE => is_worded(text, b" rule*list*", 4, list),
-        BUILD => is_worded(text, b" build room*", 1, list),
-        _ => is_worded(text, b" look_up*list*", 4, list),
+    if is_worded(text, b" build room*", 1, &mut list) {
+        return made(BUILD, 0, [0, 0, 0, list[0]]);
     }
+    if is_worded(text, b" look_up*list*", 4, &mut list) {
+        return made(LOOK_UP, 0, list);
+    }
+    let end = find(text, 0, b'}');
+    let said = subjects_in(between(text, 0, end));
+    if said.understood & is_worded(between(text, end, text.len()), b"}*list*", 3, &mut list) {
+        return made(RULE, said.subjects, [0, list[0], list[1], list[2]]);
+    }
+    made(CALLS, 0, [0, 0, 0, 0])
 }
 
 // Whether a text is worded as a pattern, with so many numbers.
@@ -60,16 +74,37 @@ fn is_worded(text: &[u8], pattern: &[u8], count: usize, list: &mut [u16]) -> boo
     scanned.fits & (scanned.count == count)
 }
 
-fn made(which: usize, numbers: [u16; 4]) -> Call {
-    let places = if which == BUILD {
-        numbers[0]
-    } else {
-        numbers[3]
-    };
+// The set of subjects that the text of a ruling says, up to where the set ends.
+fn subjects_in(text: &[u8]) -> Said {
+    let mut list = [0; MOST];
+    let scanned = scan(text, b" rule {*", &mut list);
+    let mut subjects = 0;
+    let mut at = 0;
+    while at < scanned.count {
+        let subject = number(&list, at);
+        if subject >= MOST {
+            return Said {
+                understood: false,
+                subjects: 0,
+            };
+        }
+        subjects = subjects | 1 << subject;
+        at += 1;
+    }
+    Said {
+        understood: scanned.fits,
+        subjects,
+    }
+}
+
+// A call with its numbers: a subject, the values of the other fields, and how many places it is lent.
+fn made(which: usize, subjects: u64, numbers: [u16; 4]) -> Call {
     Call {
         which,
-        values: [numbers[0], numbers[1], numbers[2]],
-        places: wide(places),
+        subjects,
+        subject: numbers[0],
+        others: [numbers[1], numbers[2]],
+        places: wide(numbers[3]),
     }
 }
 
@@ -104,10 +139,12 @@ fn ask_table(call: Call, line: &[u8], changes: &[u8], lent: &mut [u16]) -> Answe
     }
     let table = &bytes[0..size];
     let which = call.which;
-    let values = call.values;
+    let subjects = call.subjects;
+    let others = call.others;
+    let request = JointRequest { subjects, others };
     match which {
         READ => table::read(table),
-        RULE => ruling::rule(table, Request { values }, lent),
+        RULE => ruling::rule(table, request, lent),
         _ => building::build(table, lent),
     }
 }
@@ -118,8 +155,11 @@ fn ask_diagram(call: Call, line: &[u8], changes: &[u8], lent: &mut [u16]) -> Ans
     if size > PLACES {
         return not_asked();
     }
-    let values = call.values;
-    lookup::look_up(&list[0..size], Request { values }, lent)
+    let others = call.others;
+    let request = Request {
+        values: [call.subject, others[0], others[1]],
+    };
+    lookup::look_up(&list[0..size], request, lent)
 }
 
 fn not_asked() -> Answer {

@@ -120,11 +120,11 @@ fn tested(tally: Tally, line: &[u8], table: &[u8], diagram: &[u8]) -> Tally {
 
 // What a call gave, and what it left in all that it could be lent, compared with what the case says.
 fn compared(tally: Tally, line: &[u8], call: Call, given: Answer, lent: &[u16; PLACES]) -> Tally {
-    let mut due = [0; 4];
+    let mut due = [0; 5];
     let answer = scan(part(line, ANSWER), b"*", &mut due);
     let mut written = [0; PLACES];
     let list = scan(part(line, WRITTEN), b"*", &mut written);
-    let whole = is_case(line) & answer.fits & (answer.count == 4) & list.fits;
+    let whole = is_case(line) & answer.fits & (answer.count == 5) & list.fits;
     if !whole | (list.count > call.places) {
         return tally.not_understood(part(line, NAME));
     }
@@ -136,10 +136,11 @@ fn compared(tally: Tally, line: &[u8], call: Call, given: Answer, lent: &[u16; P
     counted.differs(part(line, NAME), given, place, call.places)
 }
 
-// Whether an answer has the number, place, decision and count that are due.
-fn is_due(answer: Answer, due: [u16; 4]) -> bool {
+// Whether an answer has the number, place, decision, count and subjects that are due.
+fn is_due(answer: Answer, due: [u16; 5]) -> bool {
     (answer.number as usize == wide(due[0]))
         & (answer.place == wide(due[1]))
         & (answer.decision as usize == wide(due[2]))
         & (answer.count == wide(due[3]))
+        & (answer.subjects == wide(due[4]))
 }

@@ -47,6 +47,7 @@ impl Tally {
         item(b"", answer.place);
         item(b"", answer.decision as usize);
         item(b"", answer.count);
+        item(b"", answer.subjects);
         item(b", written as due up to place", place);
         item(b" of", places);
         io::write_all(1, b"\n");

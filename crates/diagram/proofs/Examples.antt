@@ -59,9 +59,9 @@ pub record GivesRuling (d q : List ℕ) (n : ℕ) (a : Answer) (list : List ℕ)
 -- requests asked of T's diagram, and of two slices that are not sound
 pub record Asked : Type 0 where
   -- "T, (0,0,0): may, 10."
-  pub t-0-0-0 : GivesRuling diagramT (0 ∷ 0 ∷ 0 ∷ []) 3 (ruled 1 1) (10 ∷ 0 ∷ 0 ∷ [])
+  pub t-0-0-0 : GivesRuling diagramT (0 ∷ 0 ∷ 0 ∷ []) 3 (ruled 1 1 0) (10 ∷ 0 ∷ 0 ∷ [])
   -- "T, (2,0,0), list of 3: not; 10, 20, 0."
-  pub t-2-0-0 : GivesRuling diagramT (2 ∷ 0 ∷ 0 ∷ []) 3 (ruled 2 2) (10 ∷ 20 ∷ 0 ∷ [])
+  pub t-2-0-0 : GivesRuling diagramT (2 ∷ 0 ∷ 0 ∷ []) 3 (ruled 2 2 0) (10 ∷ 20 ∷ 0 ∷ [])
   -- "List of 1: refusal 10, list 0."
   pub t-list-of-1 : GivesRuling diagramT (2 ∷ 0 ∷ 0 ∷ []) 1 (refused 10 0) (0 ∷ [])
   -- "T, (3,0,0): refusal 9, field 0."

@@ -62,18 +62,18 @@ module _ (d : List ℕ) where
     sound-answers n m s k a list e z =
         let r = ruledBy d q in (
           e ∙ ap (soundLookedUp d q) k
-              ∙ sym (settled-after refused (answerOf r) (diagramRefusal d ∷ []) (soundRefusals d q n) (sound s)),
+              ∙ sym (settled-after refused (answerOf r 0) (diagramRefusal d ∷ []) (soundRefusals d q n) (sound s)),
           z ∙ ap (soundLookedUpList d q) k
               ∙ sym (settled-after (λ number place. zeros n) (padded (r .cards) n) (diagramRefusal d ∷ []) (soundRefusals d q n) (sound s)),
         )
 
     -- every request within the maxima of a sound diagram gets its ruling, where the list is long enough
     pub sound-ruled : (n : ℕ) → Sound fields d → Within (maximum d) q → length (ruledBy d q .cards) ≤ n →
-        (lookedUp d q n ≡ answerOf (ruledBy d q)) × (lookedUpList d q n ≡ padded (ruledBy d q .cards) n)
-    sound-ruled n s = within-ruled (diagramRefusal d ∷ []) (maximum d) q (ruledBy d q) n (sound s)
+        (lookedUp d q n ≡ answerOf (ruledBy d q) 0) × (lookedUpList d q n ≡ padded (ruledBy d q .cards) n)
+    sound-ruled n s w = within-ruled (diagramRefusal d ∷ []) (maximum d) q 0 (omega arith) (ruledBy d q) 0 n (sound s) (λ f _ l. w f l)
 
     -- the decision is one of the four, for every slice and every request of as many values as there are fields
     pub one-of-four : (n : ℕ) → length q ≡ fields → lookedUp d q n .decision < 4
     one-of-four n e =
-        asked-below (diagramRefusal d ∷ []) (maximum d) q (ruledBy d q) n
-        (λ none w. omega (arith, ruling-holdable d q (none-sound none) w e .one-of-four))
+        asked-below (diagramRefusal d ∷ []) (maximum d) q 0 (omega arith) (ruledBy d q) 0 n
+        (λ none w. omega (arith, ruling-holdable d q (none-sound none) (λ f l. w f (omega arith) l) e .one-of-four))

@@ -28,9 +28,9 @@ module _ (ms : List ℕ) (f : List ℕ → Ruling) (tail : List ℕ) (all : leng
 
   -- the answer and the list: those of the ruling, where the list is long enough for its cards
   pub walked-diagram-answers : length (f q .cards) ≤ n →
-      (lookedUp (diagram ms f ++ tail) q n ≡ answerOf (f q))
+      (lookedUp (diagram ms f ++ tail) q n ≡ answerOf (f q) 0)
       × (lookedUpList (diagram ms f ++ tail) q n ≡ padded (f q .cards) n)
   walked-diagram-answers l =
       let same = look-up-gives-the-ruling ms f tail q w in
       let h = sound-ruled slice q n sound (within-as-walked ms f tail q all (within-length ms q w ∙ all) .1 w) (omega (arith, ap (λ r. length (r .cards)) same)) in
-      (h .0 ∙ ap answerOf same, h .1 ∙ ap (λ r. padded (r .cards) n) same)
+      (h .0 ∙ ap (λ r. answerOf r 0) same, h .1 ∙ ap (λ r. padded (r .cards) n) same)

@@ -18,7 +18,7 @@ diagramRefusal d = row 12 0 (not (yes? (sound? fields d)))
 
 -- "9, 10" after 12: of request q and a list of n places
 abbrev pub soundRefusals : List ℕ → List ℕ → ℕ → List Refusal
-soundRefusals d q n = requestRefusals (maximum d) q (ruledBy d q) n
+soundRefusals d q n = requestRefusals (maximum d) q 0 (ruledBy d q) n
 
 -- "By diagram: 12, 9, 10"
 abbrev pub lookUpRefusals : List ℕ → List ℕ → ℕ → List Refusal
@@ -26,7 +26,7 @@ lookUpRefusals d q n = (diagramRefusal d ∷ []) ++ soundRefusals d q n
 
 -- the answer to request q, of a list of n places
 abbrev pub lookedUp : List ℕ → List ℕ → ℕ → Answer
-lookedUp d q n = ruledOr (lookUpRefusals d q n) (ruledBy d q)
+lookedUp d q n = ruledOr (lookUpRefusals d q n) (ruledBy d q) 0
 
 -- what the list then holds: the cards, "then zeros to the list's end", zeros in a refusal
 abbrev pub lookedUpList : List ℕ → List ℕ → ℕ → List ℕ
@@ -35,7 +35,7 @@ lookedUpList d q n = listedOr (lookUpRefusals d q n) (ruledBy d q .cards) n
 -- the answer, and what the list then holds, of a diagram that is known to be sound
 
 abbrev pub soundLookedUp : List ℕ → List ℕ → ℕ → Answer
-soundLookedUp d q n = ruledOr (soundRefusals d q n) (ruledBy d q)
+soundLookedUp d q n = ruledOr (soundRefusals d q n) (ruledBy d q) 0
 
 abbrev pub soundLookedUpList : List ℕ → List ℕ → ℕ → List ℕ
 soundLookedUpList d q n = listedOr (soundRefusals d q n) (ruledBy d q .cards) n

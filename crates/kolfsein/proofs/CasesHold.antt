@@ -1,4 +1,4 @@
--- The cases of document 01 hold: each is computed, but for the empty root, which is so for every request and for all maxima.
+-- The cases of documents 01 and 02 hold: each is computed, but for the empty root, which is so for every set of subjects and for all maxima.
 -- Assumes nothing.
 use mathlib.Core.Path.{_≡_, refl, ap, _∙_}
 use mathlib.Core.Bool.{Bool, true, false, cond}
@@ -6,10 +6,12 @@ use mathlib.Core.List.{List, [], _∷_}
 use Prim.Native.Nat.{ℕ, _-_, _≤_, _<_}
 use native.Mathlib.Omega.{arith}
 use borrow.Author.Tests.{le-ltb}
+use lib.Dec.{lit≤}
 use lib.ListN.{length}
 use Rattle.answer.specs.Answers.{counted, ruled, zeros, padded}
 use Rattle.answer.specs.Refusals.{upward, settled}
-use Rattle.answer.specs.Requests.{Within}
+use Rattle.answer.specs.Rulings.{answerOf}
+use Rattle.answer.specs.Below.{someBelow, countBelow}
 use Rattle.answer.proofs.RequestRefusals.{within-ruled}
 use Rattle.combining.specs.Ways.{notApplicable}
 use Rattle.table.specs.Layout.{word, maximum, valuesFrom, maxima, count, header, recordSize, start, recordByte, recordWord}
@@ -17,15 +19,20 @@ use Rattle.table.specs.Tree.{parent, level}
 use Rattle.table.specs.Reading.{lengthFault, versionFault, countFault, kindFault, spanFault, levelFault, rangeFault, rangesFault, cardFault, tableRefusals, Accepted}
 use Rattle.ruling.specs.Forest.{forestWithin}
 use Rattle.ruling.specs.Targets.{inRange, targetHolds, applies}
-use Rattle.ruling.specs.Meaning.{gives, cardsFrom}
-use Rattle.ruling.specs.Ruling.{groups}
+use Rattle.ruling.specs.Subjects.{appliesToSome, size, subjectsFault, AskedWithin}
+use Rattle.ruling.specs.Meaning.{gives, cardsFrom, meaning}
+use Rattle.ruling.specs.Ruling.{groups, groupsTogether, askedRefusals}
+use Rattle.ruling.proofs.WithinTogether.{asked-none, asked-passes}
+use Rattle.sets.specs.Sets.{bit}
 use Rattle.diagram.specs.Entries.{terminal, node}
+use Rattle.diagram.specs.Decided.{le?, lt?, eq?, iff?, not?, and?, or?, when?, one-more?, each?}
+use Rattle.diagram.specs.SoundIsDecided.{scan?, start?, entry-before?, terminal-holds?, sound-terminal?, sound-node?, sound-entry?, sound?}
 use Rattle.diagram.specs.Walk.{enter, extend, below, walk, diagram}
 use Rattle.diagram.proofs.DiagramGoesByRulingsWithin.{diagram-goes-by-rulings-within}
 use Rattle.diagram.proofs.OneRulingForAll.{none-everywhere}
 use Rattle.building.specs.Built.{diagramOf}
 use Rattle.building.proofs.BuildAnswers.{accepted-built}
-use Rattle.kolfsein.specs.Cases.{tableT, overOnlyOne, emptyRoot, emptyDiagram, GivesRuling, GivesDiagram, Cases}
+use Rattle.kolfsein.specs.Cases.{tableT, overOnlyOne, emptyRoot, emptyDiagram, permitFirst, denyFirst, ruleFor1InGroupFor0, GivesRuling, GivesDiagram, Cases}
 
 either : (b : Bool) (n : ℕ) → cond b n n ≡ n
 either true n = refl
@@ -33,7 +40,7 @@ either false n = refl
 
 module _ (kind subject resource action : ℕ) (few : kind < 4) where
   empty-accepted : Accepted (emptyRoot kind subject resource action)
-  unfolding emptyRoot word maximum count header recordSize start recordByte recordWord parent level lengthFault versionFault countFault kindFault spanFault levelFault rangeFault rangesFault cardFault upward tableRefusals
+  unfolding emptyRoot word maximum count header recordSize start recordByte recordWord parent level lengthFault versionFault countFault kindFault spanFault levelFault rangeFault rangesFault cardFault upward tableRefusals someBelow
   empty-accepted =
       simp (
         le-ltb 5 kind (omega arith),
@@ -47,31 +54,35 @@ module _ (kind subject resource action : ℕ) (few : kind < 4) where
       )
       (refl, (refl, (refl, (refl, (refl, (refl, (refl, (refl, tt))))))))
 
-  empty-decision : (q : List ℕ) → groups (emptyRoot kind subject resource action) q .decision ≡ notApplicable
+  -- whichever nodes apply
+  empty-decision : (a : ℕ → Bool) → meaning a (emptyRoot kind subject resource action) .decision ≡ notApplicable
   unfolding emptyRoot word count header recordSize start recordByte recordWord forestWithin gives
-  empty-decision q = simp (le-ltb 3 kind (omega arith), either)
+  empty-decision a = simp (le-ltb 3 kind (omega arith), either)
 
-  empty-cards : (q : List ℕ) → groups (emptyRoot kind subject resource action) q .cards ≡ []
+  empty-cards : (a : ℕ → Bool) → meaning a (emptyRoot kind subject resource action) .cards ≡ []
   unfolding emptyRoot word count header recordSize start recordByte cardsFrom
-  empty-cards q = simp (le-ltb 3 kind (omega arith))
+  empty-cards a = simp (le-ltb 3 kind (omega arith))
+
+  empty-meaning : (a : ℕ → Bool) → meaning a (emptyRoot kind subject resource action) ≡ record { decision = notApplicable; cards = [] }
+  empty-meaning a =
+      ap (λ (d : ℕ). record { decision = d; cards = meaning a (emptyRoot kind subject resource action) .cards }) (empty-decision a)
+      ∙ ap (λ (cs : List ℕ). record { decision = notApplicable; cards = cs }) (empty-cards a)
 
   empty-rules :
-      (q : List ℕ) → Within (maximum (emptyRoot kind subject resource action)) q
-      → (n : ℕ) → GivesRuling (emptyRoot kind subject resource action) q n (ruled notApplicable 0) (zeros n)
-  empty-rules q within n =
+      (s : ℕ) (others : List ℕ) → AskedWithin (maximum (emptyRoot kind subject resource action)) s others
+      → (n : ℕ) → GivesRuling (emptyRoot kind subject resource action) s others n (ruled notApplicable 0 (size s)) (zeros n)
+  empty-rules s others asked n =
       let t = emptyRoot kind subject resource action in
+      let r = groupsTogether t s others in
       let none : n - 0 ≡ n = omega arith in
-      let cards = empty-cards q in
-      let h = within-ruled (tableRefusals t) (maximum t) q (groups t q) n empty-accepted within (omega (arith, ap length cards)) in
+      let e = empty-meaning (appliesToSome t s others) in
+      let h =
+      within-ruled (askedRefusals t s) (maximum t) (0 ∷ others) 1 (lit≤ tt) r (size s) n (asked-none t s others empty-accepted asked)
+      (asked-passes t s others asked .1) (omega (arith, ap (λ r. length (r .cards)) e)) in
       record {
-        answer = h .0 ∙ ap (λ d. ruled d (length (groups t q .cards))) (empty-decision q) ∙ ap (λ cs. ruled notApplicable (length cs)) cards;
-        holds = h .1 ∙ ap (λ cs. padded cs n) cards ∙ ap zeros none;
+        answer = h .0 ∙ ap (λ r. answerOf r (size s)) e;
+        holds = h .1 ∙ ap (λ r. padded (r .cards) n) e ∙ ap zeros none;
       }
-
-  empty-groups : (q : List ℕ) → groups (emptyRoot kind subject resource action) q ≡ record { decision = notApplicable; cards = [] }
-  empty-groups q =
-      ap (λ (d : ℕ). record { decision = d; cards = groups (emptyRoot kind subject resource action) q .cards }) (empty-decision q)
-      ∙ ap (λ (cs : List ℕ). record { decision = notApplicable; cards = cs }) (empty-cards q)
 
   empty-maxima : maxima (emptyRoot kind subject resource action) ≡ subject ∷ resource ∷ action ∷ []
   unfolding emptyRoot maximum valuesFrom maxima
@@ -82,7 +93,7 @@ module _ (kind subject resource action : ℕ) (few : kind < 4) where
       let t = emptyRoot kind subject resource action in
       ap (λ ms. diagram ms (groups t)) empty-maxima
       ∙ diagram-goes-by-rulings-within (subject ∷ resource ∷ action ∷ []) (groups t) (λ q. record { decision = notApplicable; cards = [] })
-      (λ q w. empty-groups q)
+      (λ q w. empty-meaning (applies t q))
       ∙ none-everywhere subject resource action
 
   empty-builds : (n : ℕ) → 20 ≤ n → GivesDiagram (emptyRoot kind subject resource action) n (counted 20) (padded (emptyDiagram subject resource action) n)
@@ -96,7 +107,7 @@ module _ (kind subject resource action : ℕ) (few : kind < 4) where
       }
 
 pub cases-hold : Cases
-unfolding diagram walk enter extend below terminal node tableT overOnlyOne upward settled word maximum valuesFrom maxima count header recordSize start recordByte recordWord parent level lengthFault versionFault countFault kindFault spanFault levelFault rangeFault rangesFault cardFault tableRefusals forestWithin inRange targetHolds applies gives cardsFrom
+unfolding diagram walk enter extend below terminal node tableT overOnlyOne permitFirst denyFirst ruleFor1InGroupFor0 upward settled word maximum valuesFrom maxima count header recordSize start recordByte recordWord parent level lengthFault versionFault countFault kindFault spanFault levelFault rangeFault rangesFault cardFault tableRefusals forestWithin inRange targetHolds applies bit someBelow countBelow appliesToSome subjectsFault gives cardsFrom le? lt? eq? iff? not? and? or? when? one-more? each? scan? start? entry-before? terminal-holds? sound-terminal? sound-node? sound-entry? sound?
 cases-hold =
     record {
       t-0-0-0 = record { answer = refl; holds = refl };
@@ -104,6 +115,7 @@ cases-hold =
       t-2-0-1 = record { answer = refl; holds = refl };
       t-2-0-0 = record { answer = refl; holds = refl };
       t-list-of-1 = record { answer = refl; holds = refl };
+      t-figure-3 = record { answer = refl; holds = refl };
       t-3-0-0 = record { answer = refl; holds = refl };
       t-root-kind-2 = record { answer = refl; holds = refl };
       t-root-kind-1 = record { answer = refl; holds = refl };
@@ -114,4 +126,17 @@ cases-hold =
       t-into-62 = record { answer = refl; holds = refl };
       t-into-63 = record { answer = refl; holds = refl };
       t-into-64 = record { answer = refl; holds = refl };
+      t-0-2-trade = record { answer = refl; holds = refl };
+      t-0-2-list-of-1 = record { answer = refl; holds = refl };
+      t-0-1-2-trade = record { answer = refl; holds = refl };
+      t-0-2-attack = record { answer = refl; holds = refl };
+      t-0-1-2-attack = record { answer = refl; holds = refl };
+      t-empty-set = record { answer = refl; holds = refl };
+      t-0-3-over = record { answer = refl; holds = refl };
+      t-resource-over = record { answer = refl; holds = refl };
+      t-action-over = record { answer = refl; holds = refl };
+      no-member-by-itself = record { answer = refl; holds = refl };
+      equal-diagrams = record { first-built = refl; second-built = refl; equal = refl };
+      permit-first = record { answer = refl; holds = refl };
+      deny-first = record { answer = refl; holds = refl };
     }

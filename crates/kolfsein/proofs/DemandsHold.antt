@@ -1,13 +1,14 @@
 -- The three demands hold.
 -- Assumes nothing.
-use mathlib.Core.Path.{_≡_, sym, ap, _∙_}
+use mathlib.Core.Path.{_≡_, sym, ap, _∙_, subst}
 use mathlib.Core.Bool.{true, false, not}
 use mathlib.Core.Logic.{_↔_}
-use mathlib.Core.List.{List, _++_}
-use Prim.Native.Nat.{ℕ, _-_}
+use mathlib.Core.List.{List, _∷_, _++_}
+use Prim.Native.Nat.{ℕ, _-_, _^_, _<_}
+use lib.Dec.{lit≤}
 use lib.ListN.{length}
 use Rattle.answer.specs.Fields.{fields}
-use Rattle.answer.specs.Answers.{refused, counted, zeros, padded}
+use Rattle.answer.specs.Answers.{refused, counted, ruled, zeros, padded}
 use Rattle.answer.specs.Rulings.{Ruling, answerOf}
 use Rattle.answer.proofs.Settling.{answers}
 use Rattle.answer.proofs.RequestRefusals.{within-ruled}
@@ -16,11 +17,16 @@ use Rattle.table.specs.Reading.{tableRefusals, Accepted}
 use Rattle.table.proofs.Accepting.{accepted-reading}
 use Rattle.table.proofs.AcceptedIsWellFormed.{well-formed}
 use Rattle.ruling.specs.Targets.{applies}
-use Rattle.ruling.specs.Ruling.{groups, rulingRefusals, ruling, ruledList}
+use Rattle.ruling.specs.Subjects.{mostSubjects, appliesToSome, size, AskedWithin}
+use Rattle.ruling.specs.Ruling.{groups, groupsTogether, askedRefusals, rulingRefusals, ruling, ruledList}
 use Rattle.ruling.proofs.DecisionAsWorded.{decision-as-worded}
 use Rattle.ruling.proofs.AppliesByParents.{applies-by-parents}
+use Rattle.ruling.proofs.SubjectsByParents.{applies-to-some-by-parents}
 use Rattle.ruling.proofs.ChildrenByParents.{children-by-parents}
+use Rattle.ruling.proofs.DecisionByChildren.{decision-by-children}
 use Rattle.ruling.proofs.CardsOfMatchingRules.{each-listed, number-of-cards}
+use Rattle.ruling.proofs.OneSubject.{size-one, one-subject, one-asked}
+use Rattle.ruling.proofs.WithinTogether.{asked-none, asked-passes, ruled-exactly}
 use Rattle.diagram.specs.Layout.{used}
 use Rattle.diagram.specs.LookUp.{ruledBy}
 use Rattle.diagram.specs.Sound.{Sound}
@@ -43,9 +49,14 @@ unsound d = (
 )
 
 -- demand 2
-question : (t q : List ℕ) (n : ℕ) → Accepted t → WithinFields t q → LongEnough t q n → Rules (ruling t q n) (ruledList t q n) (groups t q) n
-question t q n c w l =
-    let h = within-ruled (tableRefusals t) (maximum t) q (groups t q) n c (w .1) l in record { answer = h .0; cards = h .1 }
+question : (t : List ℕ) (s : ℕ) (others : List ℕ) (n : ℕ) → Accepted t → AskedWithin (maximum t) s others →
+    LongEnough (groupsTogether t s others) n →
+    Rules (ruling t s others n) (ruledList t s others n) (groupsTogether t s others) (size s) n
+question t s others n c w l =
+    let h =
+    within-ruled (askedRefusals t s) (maximum t) (0 ∷ others) 1 (lit≤ tt) (groupsTogether t s others) (size s) n
+    (asked-none t s others c w) (asked-passes t s others w .1) l in
+    record { answer = h .0; cards = h .1 }
 
 -- demand 3, through the walk's diagram, which the used part is
 module _ (t : List ℕ) (room : ℕ) (b : Builds t room) where
@@ -57,8 +68,8 @@ module _ (t : List ℕ) (room : ℕ) (b : Builds t room) where
       let h = succeeds-exactly t room .0 (b .succeeds) in
       accepted-built t room (h .0) (h .1) .1 ∙ ap (λ d. padded d room) (sym walked)
 
-  through : (following q : List ℕ) (n : ℕ) → WithinFields t q → LongEnough t q n →
-      let d = usedPart t room ++ following in Rules (lookedUp d q n) (lookedUpList d q n) (groups t q) n
+  through : (following q : List ℕ) (n : ℕ) → WithinFields t q → LongEnough (groups t q) n →
+      let d = usedPart t room ++ following in Rules (lookedUp d q n) (lookedUpList d q n) (groups t q) 0 n
   through following q n w l =
       let most = succeeds-exactly t room .0 (b .succeeds) .1 .0 in
       let h = built-answers t following (b .bytes) (b .accepted) most q n (w .0) (w .1) l in
@@ -67,7 +78,24 @@ module _ (t : List ℕ) (room : ℕ) (b : Builds t room) where
         cards = ap (λ d. lookedUpList (d ++ following) q n) walked ∙ h .1;
       }
 
-  counts : built t room ≡ record { number = 0; decision = 0; place = 0; count = used (builtDiagram t room) }
+  -- a set of one subject, by the diagram
+  alone : (following : List ℕ) (k : ℕ) (others : List ℕ) (n : ℕ) → k < mostSubjects → WithinFields t (k ∷ others) → LongEnough (groups t (k ∷ others)) n →
+      let d = usedPart t room ++ following in
+      let a = lookedUp d (k ∷ others) n in
+      (ruling t (2 ^ k) others n ≡ ruled (a .decision) (a .count) 1) × (ruledList t (2 ^ k) others n ≡ lookedUpList d (k ∷ others) n)
+  alone following k others n m w l =
+      let q = k ∷ others in
+      let e = one-subject k m t others (b .accepted) in
+      let by-groups = question t (2 ^ k) others n (b .accepted) (one-asked k m (maximum t) others w) (subst (λ r. LongEnough r n) (sym e) l) in
+      let by-diagram = through following q n w l in (
+        by-groups .answer
+            ∙ ap (λ r. answerOf r (size (2 ^ k))) e
+            ∙ ap (answerOf (groups t q)) (size-one k m)
+            ∙ sym (ap (λ a. ruled (a .decision) (a .count) 1) (by-diagram .answer)),
+        by-groups .cards ∙ ap (λ r. padded (r .cards) n) e ∙ sym (by-diagram .cards),
+      )
+
+  counts : built t room ≡ record { number = 0; decision = 0; place = 0; count = used (builtDiagram t room); subjects = 0 }
   counts =
       let h = succeeds-exactly t room .0 (b .succeeds) in
       let e = accepted-built t room (h .0) (h .1) in
@@ -98,20 +126,30 @@ pub demands-hold : Demands
 demands-hold =
     record {
       reading-refuses = λ t. answers refused nothing (counted (count t)) nothing (tableRefusals t);
-      ruling-refuses = λ t q n. answers refused (zeros n) (answerOf (groups t q)) (padded (groups t q .cards) n) (rulingRefusals t q n);
+      ruling-refuses =
+          λ t s others n.
+          let r = groupsTogether t s others in
+          answers refused (zeros n) (answerOf r (size s)) (padded (r .cards) n) (rulingRefusals t s others n);
       build-refuses = λ t n. answers refused (zeros n) (counted (length (diagramOf t))) (padded (diagramOf t) n) (buildRefusals t n);
-      look-up-refuses = λ d q n. answers refused (zeros n) (answerOf (ruledBy d q)) (padded (ruledBy d q .cards) n) (lookUpRefusals d q n);
+      look-up-refuses = λ d q n. answers refused (zeros n) (answerOf (ruledBy d q) 0) (padded (ruledBy d q .cards) n) (lookUpRefusals d q n);
       unsound-refused = unsound;
       reading-counts = accepted-reading;
       build-counts = counts;
       question-ruled = question;
-      decision-worded = λ t q c. sym (decision-as-worded t q c 0 (well-formed t c .some));
-      applies-worded = λ t q i c l. applies-by-parents t q c i l;
+      question-accepted = ruled-exactly;
+      applies-worded = λ t s others i c l. applies-to-some-by-parents t s others c i l;
+      children-asked = λ t s others i c l. decision-by-children (appliesToSome t s others) t c i l;
       children-worded = λ t i c l. children-by-parents t c i l;
-      cards-in-order = λ t q i l e. each-listed (applies t q) t i l e;
-      true-count = λ t q. number-of-cards (applies t q) t;
+      cards-in-order = λ t s others i l e. each-listed (appliesToSome t s others) t i l e;
+      true-count = λ t s others. number-of-cards (appliesToSome t s others) t;
+      one-by-groups = λ t k others c l. (one-subject k l t others c, size-one k l);
+      one-by-diagram = alone;
       diagram-rules = through;
       equal-exactly = equal;
+      decision-worded = λ t q c. sym (decision-as-worded t q c 0 (well-formed t c .some));
+      matches-worded = λ t q i c l. applies-by-parents t q c i l;
+      count-worded = λ t q. number-of-cards (applies t q) t;
+      list-worded = λ t q i l e. each-listed (applies t q) t i l e;
       build-succeeds = succeeds;
       used-part-walked = walked;
       zeros-after = after;

@@ -1,14 +1,15 @@
--- Document 01's cases "with *", as one claim about the meanings themselves: a field for each case.
+-- Document 01's cases "with *" and the worked examples of document 02, as one claim about the meanings themselves: a field for each case.
 -- Assumes nothing: these are definitions.
 use mathlib.Core.List.{List, [], _∷_}
 use mathlib.Core.Path.{_≡_}
-use Prim.Native.Nat.{ℕ, _≤_, _<_}
+use Prim.Native.Nat.{ℕ, _+_, _^_, _≤_, _<_}
 use Rattle.answer.specs.Answers.{refused, counted, ruled, zeros, padded}
-use Rattle.answer.specs.Requests.{Within}
 use Rattle.answer.specs.declared.Answer.{Answer}
 use Rattle.combining.specs.Ways.{notApplicable, permit, deny, indeterminate}
 use Rattle.table.specs.Layout.{maximum}
+use Rattle.ruling.specs.Subjects.{size, AskedWithin}
 use Rattle.ruling.specs.Ruling.{ruling, ruledList}
+use Rattle.diagram.specs.LookedUp.{lookedUp, lookedUpList}
 use Rattle.diagram.specs.SmallRulebook.{diagramT}
 use Rattle.building.specs.Built.{built, builtDiagram}
 
@@ -50,42 +51,88 @@ emptyDiagram subject resource action =
     ∷ 1 ∷ 1 ∷ subject ∷ 12
     ∷ []
 
--- Table t gives request q this answer, where the list has n places, and the list then holds this.
-pub record GivesRuling (t q : List ℕ) (n : ℕ) (a : Answer) (list : List ℕ) : Type 0 where
-  pub answer : ruling t q n ≡ a
-  pub holds : ruledList t q n ≡ list
+-- paper 1, "a may card for figure 0": a permit rule, with card 1
+abbrev permitFor0 : List ℕ → List ℕ
+permitFor0 more = 4 ∷ 0 ∷ 1 ∷ 0 ∷ 1 ∷ 0 ∷ 0 ∷ 0 ∷ 0 ∷ 0 ∷ 0 ∷ more
+
+-- "a may not card for figure 1": a deny rule, with card 2
+abbrev denyFor1 : List ℕ → List ℕ
+denyFor1 more = 5 ∷ 0 ∷ 1 ∷ 0 ∷ 2 ∷ 1 ∷ 1 ∷ 0 ∷ 0 ∷ 0 ∷ 0 ∷ more
+
+-- "in a 'first' group": the header and a first-applicable root, before two rules; the subject maximum is 1, the others are 0
+abbrev firstOf : List ℕ → List ℕ
+firstOf rules = 0 ∷ 39 ∷ 1 ∷ 1 ∷ 0 ∷ 0 ∷ 0 ∷ 3 ∷ 0 ∷ 0 ∷ 3 ∷ 0 ∷ 0 ∷ 0 ∷ 1 ∷ 0 ∷ 0 ∷ 0 ∷ 0 ∷ rules
+
+-- "a may card for figure 0 and a may not card for figure 1" in such a group
+unfoldable pub permitFirst : List ℕ
+permitFirst = firstOf (permitFor0 (denyFor1 []))
+
+-- the same, after they "change places"
+unfoldable pub denyFirst : List ℕ
+denyFirst = firstOf (denyFor1 (permitFor0 []))
+
+-- a permit rule for subject 1 in a group for subject 0, under a root for both; the subject maximum is 1, the others are 0
+unfoldable pub ruleFor1InGroupFor0 : List ℕ
+ruleFor1InGroupFor0 =
+    0 ∷ 39 ∷ 1 ∷ 1 ∷ 0 ∷ 0 ∷ 0 ∷ 3
+    ∷ 0 ∷ 0 ∷ 3 ∷ 0 ∷ 0 ∷ 0 ∷ 1 ∷ 0 ∷ 0 ∷ 0 ∷ 0
+    ∷ 0 ∷ 0 ∷ 2 ∷ 0 ∷ 0 ∷ 0 ∷ 0 ∷ 0 ∷ 0 ∷ 0 ∷ 0
+    ∷ 4 ∷ 0 ∷ 1 ∷ 0 ∷ 1 ∷ 1 ∷ 1 ∷ 0 ∷ 0 ∷ 0 ∷ 0
+    ∷ []
+
+-- "bit k stands for figure k": the set of subject k alone
+abbrev pub only : ℕ → ℕ
+only k = 2 ^ k
+
+-- Table t gives the set s, asked with these values of the other fields and a list of n places, this answer, and the list then holds this.
+pub record GivesRuling (t : List ℕ) (s : ℕ) (others : List ℕ) (n : ℕ) (a : Answer) (list : List ℕ) : Type 0 where
+  pub answer : ruling t s others n ≡ a
+  pub holds : ruledList t s others n ≡ list
+
+-- Diagram d gives request q this answer, where the list has n places, and the list then holds this.
+pub record GivesLookUp (d q : List ℕ) (n : ℕ) (a : Answer) (list : List ℕ) : Type 0 where
+  pub answer : lookedUp d q n ≡ a
+  pub holds : lookedUpList d q n ≡ list
 
 -- Building from table t into n places gives this answer, and they then hold this.
 pub record GivesDiagram (t : List ℕ) (n : ℕ) (a : Answer) (d : List ℕ) : Type 0 where
   pub answer : built t n ≡ a
   pub holds : builtDiagram t n ≡ d
 
+-- "two tables with equal diagrams": both are built in n places, which then hold the same
+pub record EqualDiagrams (t u : List ℕ) (n : ℕ) : Type 0 where
+  pub first-built : built t n .number ≡ 0
+  pub second-built : built u n .number ≡ 0
+  pub equal : builtDiagram t n ≡ builtDiagram u n
+
 pub record Cases : Type 0 where
   -- "T, (0,0,0): may, 10."
-  pub t-0-0-0 : GivesRuling (tableT 3) (0 ∷ 0 ∷ 0 ∷ []) 2 (ruled permit 1) (10 ∷ 0 ∷ [])
+  pub t-0-0-0 : GivesRuling (tableT 3) (only 0) (0 ∷ 0 ∷ []) 2 (ruled permit 1 1) (10 ∷ 0 ∷ [])
   -- "(1,1,1): may, 30."
-  pub t-1-1-1 : GivesRuling (tableT 3) (1 ∷ 1 ∷ 1 ∷ []) 2 (ruled permit 1) (30 ∷ 0 ∷ [])
+  pub t-1-1-1 : GivesRuling (tableT 3) (only 1) (1 ∷ 1 ∷ []) 2 (ruled permit 1 1) (30 ∷ 0 ∷ [])
   -- "(2,0,1): none, no card."
-  pub t-2-0-1 : GivesRuling (tableT 3) (2 ∷ 0 ∷ 1 ∷ []) 2 (ruled notApplicable 0) (0 ∷ 0 ∷ [])
+  pub t-2-0-1 : GivesRuling (tableT 3) (only 2) (0 ∷ 1 ∷ []) 2 (ruled notApplicable 0 1) (0 ∷ 0 ∷ [])
   -- "T, (2,0,0), list of 3: not; 10, 20, 0."
-  pub t-2-0-0 : GivesRuling (tableT 3) (2 ∷ 0 ∷ 0 ∷ []) 3 (ruled deny 2) (10 ∷ 20 ∷ 0 ∷ [])
+  pub t-2-0-0 : GivesRuling (tableT 3) (only 2) (0 ∷ 0 ∷ []) 3 (ruled deny 2 1) (10 ∷ 20 ∷ 0 ∷ [])
   -- "List of 1: refusal 10, list 0."
-  pub t-list-of-1 : GivesRuling (tableT 3) (2 ∷ 0 ∷ 0 ∷ []) 1 (refused 10 0) (0 ∷ [])
-  -- "T, (3,0,0): refusal 9, field 0."
-  pub t-3-0-0 : GivesRuling (tableT 3) (3 ∷ 0 ∷ 0 ∷ []) 2 (refused 9 0) (0 ∷ 0 ∷ [])
+  pub t-list-of-1 : GivesRuling (tableT 3) (only 2) (0 ∷ 0 ∷ []) 1 (refused 10 0) (0 ∷ [])
+  -- paper 1, "figure 3 alone asked of T now gets 13"
+  pub t-figure-3 : GivesRuling (tableT 3) (only 3) (0 ∷ 0 ∷ []) 2 (refused 13 0) (0 ∷ 0 ∷ [])
+  -- "and the case (3,0,0) keeps its 9, field 0, by T's diagram"
+  pub t-3-0-0 : GivesLookUp diagramT (3 ∷ 0 ∷ 0 ∷ []) 2 (refused 9 0) (0 ∷ 0 ∷ [])
   -- "T with root kind 2, (2,0,0): may; 10, 20."
-  pub t-root-kind-2 : GivesRuling (tableT 2) (2 ∷ 0 ∷ 0 ∷ []) 2 (ruled permit 2) (10 ∷ 20 ∷ [])
+  pub t-root-kind-2 : GivesRuling (tableT 2) (only 2) (0 ∷ 0 ∷ []) 2 (ruled permit 2 1) (10 ∷ 20 ∷ [])
   -- "Root kind 1: unclear; same cards."
-  pub t-root-kind-1 : GivesRuling (tableT 1) (2 ∷ 0 ∷ 0 ∷ []) 2 (ruled indeterminate 2) (10 ∷ 20 ∷ [])
+  pub t-root-kind-1 : GivesRuling (tableT 1) (only 2) (0 ∷ 0 ∷ []) 2 (ruled indeterminate 2 1) (10 ∷ 20 ∷ [])
   -- "Root kind 3 over an only-one group with two matching may rules: not."
-  pub root-kind-3-over-only-one : GivesRuling (overOnlyOne 3) (0 ∷ 0 ∷ 0 ∷ []) 3 (ruled deny 2) (1 ∷ 2 ∷ 0 ∷ [])
+  pub root-kind-3-over-only-one : GivesRuling (overOnlyOne 3) (only 0) (0 ∷ 0 ∷ []) 3 (ruled deny 2 1) (1 ∷ 2 ∷ 0 ∷ [])
   -- "Root kind 2 over that group: unclear."
-  pub root-kind-2-over-only-one : GivesRuling (overOnlyOne 2) (0 ∷ 0 ∷ 0 ∷ []) 3 (ruled indeterminate 2) (1 ∷ 2 ∷ 0 ∷ [])
-  -- "An empty root: none everywhere": of each kind of group, with all maxima, for every request within them and every list
+  pub root-kind-2-over-only-one : GivesRuling (overOnlyOne 2) (only 0) (0 ∷ 0 ∷ []) 3 (ruled indeterminate 2 1) (1 ∷ 2 ∷ 0 ∷ [])
+  -- "An empty root: none everywhere": of each kind of group, with all maxima, for every set that asks within them and every list
   pub empty-root :
       (kind subject resource action : ℕ) → kind < 4
-      → (q : List ℕ) → Within (maximum (emptyRoot kind subject resource action)) q
-      → (n : ℕ) → GivesRuling (emptyRoot kind subject resource action) q n (ruled notApplicable 0) (zeros n)
+      → (s : ℕ) (others : List ℕ) → AskedWithin (maximum (emptyRoot kind subject resource action)) s others
+      → (n : ℕ) → GivesRuling (emptyRoot kind subject resource action) s others n (ruled notApplicable 0 (size s)) (zeros n)
   -- "20 places, root at 16.": in every room that has them
   pub empty-root-built :
       (kind subject resource action : ℕ) → kind < 4
@@ -96,3 +143,23 @@ pub record Cases : Type 0 where
   pub t-into-63 : GivesDiagram (tableT 3) 63 (counted 63) diagramT
   -- one place more, which becomes 0
   pub t-into-64 : GivesDiagram (tableT 3) 64 (counted 63) (padded diagramT 64)
+  -- paper 1, several of T's figures: scout and smuggler trade in the harbour, with the cards of both; in a list of 1, "refusal 10, list 0"
+  pub t-0-2-trade : GivesRuling (tableT 3) (only 0 + only 2) (0 ∷ 0 ∷ []) 3 (ruled deny 2 2) (10 ∷ 20 ∷ 0 ∷ [])
+  pub t-0-2-list-of-1 : GivesRuling (tableT 3) (only 0 + only 2) (0 ∷ 0 ∷ []) 1 (refused 10 0) (0 ∷ [])
+  -- all three do
+  pub t-0-1-2-trade : GivesRuling (tableT 3) (only 0 + only 1 + only 2) (0 ∷ 0 ∷ []) 2 (ruled deny 2 3) (10 ∷ 20 ∷ [])
+  -- only the captain meets the group of card 30: scout and smuggler attack in the market without it, all three with it
+  pub t-0-2-attack : GivesRuling (tableT 3) (only 0 + only 2) (1 ∷ 1 ∷ []) 2 (ruled notApplicable 0 2) (0 ∷ 0 ∷ [])
+  pub t-0-1-2-attack : GivesRuling (tableT 3) (only 0 + only 1 + only 2) (1 ∷ 1 ∷ []) 2 (ruled permit 1 3) (30 ∷ 0 ∷ [])
+  -- "13 when the party is empty or names a figure above the who maximum", "before 9, which then looks at where and deed only"
+  pub t-empty-set : GivesRuling (tableT 3) 0 (0 ∷ 0 ∷ []) 1 (refused 13 0) (0 ∷ [])
+  pub t-0-3-over : GivesRuling (tableT 3) (only 0 + only 3) (2 ∷ 0 ∷ []) 1 (refused 13 0) (0 ∷ [])
+  pub t-resource-over : GivesRuling (tableT 3) (only 0 + only 2) (2 ∷ 2 ∷ []) 1 (refused 9 1) (0 ∷ [])
+  pub t-action-over : GivesRuling (tableT 3) (only 0 + only 2) (1 ∷ 2 ∷ []) 1 (refused 9 2) (0 ∷ [])
+  -- "at least one member by itself meets its target and every target above it": a member for each target by itself does not do
+  pub no-member-by-itself : GivesRuling ruleFor1InGroupFor0 (only 0 + only 1) (0 ∷ 0 ∷ []) 1 (ruled notApplicable 0 2) (0 ∷ [])
+  -- "two tables with equal diagrams may still rule a party differently, as when a may card for figure 0 and a may not card for figure 1
+  -- change places in a 'first' group"
+  pub equal-diagrams : EqualDiagrams permitFirst denyFirst 64
+  pub permit-first : GivesRuling permitFirst (only 0 + only 1) (0 ∷ 0 ∷ []) 2 (ruled permit 2 2) (1 ∷ 2 ∷ [])
+  pub deny-first : GivesRuling denyFirst (only 0 + only 1) (0 ∷ 0 ∷ []) 2 (ruled deny 2 2) (2 ∷ 1 ∷ [])

@@ -1,14 +1,14 @@
 -- The three demands, as one claim about the definitions that the calls' contracts cite: a field for each clause.
 -- Assumes nothing: these are definitions.
 use mathlib.Core.Bool.{true, false}
-use mathlib.Core.List.{List, [], _++_}
+use mathlib.Core.List.{List, _∷_, _++_, map}
 use mathlib.Core.Logic.{_↔_}
 use mathlib.Core.Path.{_≡_}
-use Prim.Native.Nat.{ℕ, _≤_, _<_}
+use Prim.Native.Nat.{ℕ, _-_, _^_, _≤_, _<_}
 use lib.ListN.{length, getD, take}
 use Rattle.answer.specs.Fields.{fields}
-use Rattle.answer.specs.Answers.{refused, counted, zeros, padded}
-use Rattle.answer.specs.Refusals.{Answers}
+use Rattle.answer.specs.Answers.{refused, counted, ruled, zeros, padded}
+use Rattle.answer.specs.Refusals.{None, Answers}
 use Rattle.answer.specs.Order.{IsRequest}
 use Rattle.answer.specs.Rulings.{Ruling, answerOf}
 use Rattle.answer.specs.declared.Answer.{Answer}
@@ -17,9 +17,10 @@ use Rattle.table.specs.Tree.{Above}
 use Rattle.table.specs.Reading.{tableRefusals, reading, Accepted}
 use Rattle.ruling.specs.Forest.{under, childrenOf, trees}
 use Rattle.ruling.specs.Targets.{targetHolds, applies}
-use Rattle.ruling.specs.Meaning.{matches, matching}
+use Rattle.ruling.specs.Subjects.{mostSubjects, member, appliesToSome, size, AskedWithin}
+use Rattle.ruling.specs.Meaning.{gives, childOf, decision, matches, matching}
 use Rattle.ruling.specs.AsWorded.{decisionAsWorded}
-use Rattle.ruling.specs.Ruling.{groups, rulingRefusals, ruling, ruledList}
+use Rattle.ruling.specs.Ruling.{groups, groupsTogether, rulingRefusals, ruling, ruledList}
 use Rattle.diagram.specs.Layout.{used}
 use Rattle.diagram.specs.LookUp.{ruledBy}
 use Rattle.diagram.specs.Sound.{Sound}
@@ -31,13 +32,13 @@ abbrev pub WithinFields : List ℕ → List ℕ → Type 0
 WithinFields t q = IsRequest (maximum t) q
 
 -- "A list is long enough when its length is at least that count", the number of matching rules
-abbrev pub LongEnough : List ℕ → List ℕ → ℕ → Type 0
-LongEnough t q n = length (groups t q .cards) ≤ n
+abbrev pub LongEnough : Ruling → ℕ → Type 0
+LongEnough r n = length (r .cards) ≤ n
 
 -- "A ruling has number 0 and place 0": this answer, and this list of n places, have the decision, the count and the cards of ruling r,
--- "then zeros to the list's end"
-pub record Rules (a : Answer) (list : List ℕ) (r : Ruling) (n : ℕ) : Type 0 where
-  pub answer : a ≡ answerOf r
+-- "then zeros to the list's end", and the answer has this number of subjects, 0 where no set is asked
+pub record Rules (a : Answer) (list : List ℕ) (r : Ruling) (subjects n : ℕ) : Type 0 where
+  pub answer : a ≡ answerOf r subjects
   pub cards : list ≡ padded (r .cards) n
 
 -- "A diagram is built when a build from an accepted table succeeds": into n places
@@ -67,43 +68,75 @@ pub record Demands : Type 0 where
   -- by its refusals in their order, each "returned where its condition holds and none earlier in this order does, and at no other time".
   -- "every call ends, on all inputs, and expects no check made beforehand": each is proved to end, and none has a requirement.
   pub reading-refuses : (t : List ℕ) → Answers (tableRefusals t) refused nothing (counted (count t)) nothing (reading t) nothing
-  pub ruling-refuses : (t q : List ℕ) (n : ℕ) →
-      Answers (rulingRefusals t q n) refused (zeros n) (answerOf (groups t q)) (padded (groups t q .cards) n) (ruling t q n) (ruledList t q n)
+  pub ruling-refuses : (t : List ℕ) (s : ℕ) (others : List ℕ) (n : ℕ) →
+      let r = groupsTogether t s others in
+      Answers (rulingRefusals t s others n) refused (zeros n) (answerOf r (size s)) (padded (r .cards) n) (ruling t s others n) (ruledList t s others n)
   pub build-refuses : (t : List ℕ) (n : ℕ) →
       Answers (buildRefusals t n) refused (zeros n) (counted (length (diagramOf t))) (padded (diagramOf t) n) (built t n) (builtDiagram t n)
   pub look-up-refuses : (d q : List ℕ) (n : ℕ) →
-      Answers (lookUpRefusals d q n) refused (zeros n) (answerOf (ruledBy d q)) (padded (ruledBy d q .cards) n) (lookedUp d q n) (lookedUpList d q n)
+      Answers (lookUpRefusals d q n) refused (zeros n) (answerOf (ruledBy d q) 0) (padded (ruledBy d q .cards) n) (lookedUp d q n) (lookedUpList d q n)
   -- "diagram not sound": the condition of 12
   pub unsound-refused : (d : List ℕ) → (diagramRefusal d .when ≡ true) ↔ (Sound fields d → ⊥)
-  -- "Success has number 0 and place 0", "a reading alone counts nodes, a build counts places used, both with decision 0"
-  pub reading-counts : (t : List ℕ) → Accepted t → reading t ≡ record { number = 0; decision = 0; place = 0; count = count t }
+  -- "Success has number 0 and place 0", "a reading alone counts nodes, a build counts places used, both with decision 0"; "Any further
+  -- part that a later request gives an answer is 0 [..] where there is nothing to show"
+  pub reading-counts : (t : List ℕ) → Accepted t → reading t ≡ record { number = 0; decision = 0; place = 0; count = count t; subjects = 0 }
   pub build-counts : (t : List ℕ) (room : ℕ) → Builds t room →
-      built t room ≡ record { number = 0; decision = 0; place = 0; count = used (builtDiagram t room) }
+      built t room ≡ record { number = 0; decision = 0; place = 0; count = used (builtDiagram t room); subjects = 0 }
   -- Demand 2: "Every accepted question gets the decision that the four combining ways give, as document 01 restates them, with every
-  -- matching card in table order, the true count, and zeros in the rest of the list."
-  pub question-ruled : (t q : List ℕ) (n : ℕ) → Accepted t → WithinFields t q → LongEnough t q n →
-      Rules (ruling t q n) (ruledList t q n) (groups t q) n
-  -- "the decision that the four combining ways give, as document 01 restates them": the root's, as worded
-  pub decision-worded : (t q : List ℕ) → Accepted t → groups t q .decision ≡ decisionAsWorded t q 0
-  -- "A rule matches when its own target and every target above it hold": the node's own and those of its parents
-  pub applies-worded : (t q : List ℕ) (i : ℕ) → Accepted t → i < count t →
-      (applies t q i ≡ true) ↔ ((j : ℕ) → Above t i j → targetHolds t q j ≡ true)
-  -- "a group asks its children, and a child that is a group asks its own in turn": the nodes whose parent it is, each with those under it
+  -- matching card in table order, the true count, and zeros in the rest of the list." Paper 1: "The accuracy rule now speaks of parties asked
+  -- of a table", "The answer also gives how many figures the party has"
+  pub question-ruled : (t : List ℕ) (s : ℕ) (others : List ℕ) (n : ℕ) → Accepted t → AskedWithin (maximum t) s others →
+      LongEnough (groupsTogether t s others) n →
+      Rules (ruling t s others n) (ruledList t s others n) (groupsTogether t s others) (size s) n
+  -- no refusal applies to a set, and one value for each other field, exactly where the table is accepted, what each member asks is within its
+  -- fields, and the list is long enough
+  pub question-accepted : (t : List ℕ) (s : ℕ) (others : List ℕ) (n : ℕ) → length others ≡ fields - 1 →
+      None (rulingRefusals t s others n) ↔ (Accepted t × (AskedWithin (maximum t) s others × LongEnough (groupsTogether t s others) n))
+  -- paper 1, "A node holds for the party exactly when at least one member by itself meets its target and every target above it": the node's
+  -- own and those of its parents
+  pub applies-worded : (t : List ℕ) (s : ℕ) (others : List ℕ) (i : ℕ) → Accepted t → i < count t →
+      (appliesToSome t s others i ≡ true)
+      ↔ ((k : ℕ) × ((k < mostSubjects) × ((member s k ≡ true) × ((j : ℕ) → Above t i j → targetHolds t (k ∷ others) j ≡ true))))
+  -- "groups then combine as before": "a group asks its children, and a child that is a group asks its own in turn", the nodes whose parent
+  -- it is, each with those under it; a node gives by the decisions of these
   pub children-worded : (t : List ℕ) (i : ℕ) → Accepted t → i < count t → under t i ≡ trees t (childrenOf t i)
+  pub children-asked : (t : List ℕ) (s : ℕ) (others : List ℕ) (i : ℕ) → Accepted t → i < count t →
+      let a = appliesToSome t s others in decision a t i ≡ gives a t i (map (λ j. childOf a j (decision a t j)) (childrenOf t i))
   -- "every matching card in table order": a matching rule's card stands after those of the rules that match before it
-  pub cards-in-order : (t q : List ℕ) (i : ℕ) → i < count t → matches (applies t q) t i ≡ true →
-      getD (groups t q .cards) (matching (applies t q) t i) 0 ≡ card t i
+  pub cards-in-order : (t : List ℕ) (s : ℕ) (others : List ℕ) (i : ℕ) → i < count t → matches (appliesToSome t s others) t i ≡ true →
+      getD (groupsTogether t s others .cards) (matching (appliesToSome t s others) t i) 0 ≡ card t i
   -- "the true count": "the number of matching rules"
-  pub true-count : (t q : List ℕ) → length (groups t q .cards) ≡ matching (applies t q) t (count t)
+  pub true-count : (t : List ℕ) (s : ℕ) (others : List ℕ) →
+      length (groupsTogether t s others .cards) ≡ matching (appliesToSome t s others) t (count t)
+  -- "A party of one is ruled as that figure": by the groups
+  pub one-by-groups : (t : List ℕ) (k : ℕ) (others : List ℕ) → Accepted t → k < mostSubjects →
+      (groupsTogether t (2 ^ k) others ≡ groups t (k ∷ others)) × (size (2 ^ k) ≡ 1)
+  -- and by a diagram built from the table, whatever follows its used part: the decision, the count and the list are those of the look-up
+  pub one-by-diagram : (t : List ℕ) (room : ℕ) → Builds t room → (following : List ℕ) (k : ℕ) (others : List ℕ) (n : ℕ) → k < mostSubjects →
+      WithinFields t (k ∷ others) → LongEnough (groups t (k ∷ others)) n →
+      let d = usedPart t room ++ following in
+      let a = lookedUp d (k ∷ others) n in
+      (ruling t (2 ^ k) others n ≡ ruled (a .decision) (a .count) 1) × (ruledList t (2 ^ k) others n ≡ lookedUpList d (k ∷ others) n)
   -- Demand 3: "Through a diagram built here from any accepted table, in whatever room was lent, any question within the table's fields,
   -- asked with any list long enough for its cards, gets a ruling whose decision, count and list, number for number, are the ones the groups
-  -- give to that question". "Any slice that starts with this used part is the same built diagram, whatever follows it"
-  pub diagram-rules : (t : List ℕ) (room : ℕ) → Builds t room → (following q : List ℕ) (n : ℕ) → WithinFields t q → LongEnough t q n →
-      let d = usedPart t room ++ following in Rules (lookedUp d q n) (lookedUpList d q n) (groups t q) n
+  -- give to that question". "Any slice that starts with this used part is the same built diagram, whatever follows it". Paper 1: "diagrams
+  -- still take one figure. So demand 3 keeps to questions of one figure, 0 up to the who maximum, in both its halves"
+  pub diagram-rules : (t : List ℕ) (room : ℕ) → Builds t room → (following q : List ℕ) (n : ℕ) → WithinFields t q →
+      LongEnough (groups t q) n →
+      let d = usedPart t room ++ following in Rules (lookedUp d q n) (lookedUpList d q n) (groups t q) 0 n
   -- "and the used parts of two built diagrams, from any two accepted tables, are equal number for number exactly when the tables have the
   -- same field maxima and rule alike, cards included, on every question within them."
   pub equal-exactly : (t u : List ℕ) (room other : ℕ) → Builds t room → Builds u other →
       (usedPart t room ≡ usedPart u other) ↔ ((maxima t ≡ maxima u) × RuleAlike t u)
+  -- "The groups give a question the decision under 'How a table rules'": the root's, as worded
+  pub decision-worded : (t q : List ℕ) → Accepted t → groups t q .decision ≡ decisionAsWorded t q 0
+  -- "A rule matches when its own target and every target above it hold": the node's own and those of its parents
+  pub matches-worded : (t q : List ℕ) (i : ℕ) → Accepted t → i < count t →
+      (applies t q i ≡ true) ↔ ((j : ℕ) → Above t i j → targetHolds t q j ≡ true)
+  -- "as count, the number of matching rules; as list, the cards of all matching rules in table order"
+  pub count-worded : (t q : List ℕ) → length (groups t q .cards) ≡ matching (applies t q) t (count t)
+  pub list-worded : (t q : List ℕ) (i : ℕ) → i < count t → matches (applies t q) t i ≡ true →
+      getD (groups t q .cards) (matching (applies t q) t i) 0 ≡ card t i
   -- "succeeds, as it does wherever 11 doesn't apply"
   pub build-succeeds : (t : List ℕ) (room : ℕ) → Accepted t → roomRefusal t room .when ≡ false → built t room .number ≡ 0
   -- "is the diagram that the walk gives"; "Places past the used ones become 0"

@@ -1,5 +1,6 @@
 // The library's calls for C. `include/kolfsein.h` declares them: a slice is a pointer and then its length.
 use answer::Answer;
+use answer::JointRequest;
 use answer::Request;
 use building::build;
 use lookup::look_up;
@@ -21,20 +22,21 @@ pub extern "C" fn kolfsein_read(table: &[u8]) -> Answer
     read(table)
 }
 
-// Rules on a request by a table's groups, with the cards of all matching rules.
+// Rules on several subjects that ask together, by a table's groups, with the cards of all matching rules.
 #[no_mangle]
 pub extern "C" fn kolfsein_rule(
     table: &[u8],
-    subject: u16,
+    subjects: u64,
     resource: u16,
     action: u16,
     cards: &mut [u16],
 ) -> Answer
-    ensures { λ r. ⌜ r ≡ ruling (now (table .entry)) (subject ∷ resource ∷ action ∷ []) (length (now (cards .entry))) ⌝ }
-    ensures { λ _. ⌜ now (cards .exit) ≡ ruledList (now (table .entry)) (subject ∷ resource ∷ action ∷ []) (length (now (cards .entry))) ⌝ }
+    ensures { λ r. ⌜ r ≡ ruling (now (table .entry)) subjects (resource ∷ action ∷ []) (length (now (cards .entry))) ⌝ }
+    ensures { λ _. ⌜ now (cards .exit) ≡ ruledList (now (table .entry)) subjects (resource ∷ action ∷ []) (length (now (cards .entry))) ⌝ }
 {
-    let request = Request {
-        values: [subject, resource, action],
+    let request = JointRequest {
+        subjects,
+        others: [resource, action],
     };
     rule(table, request, cards)
 }

@@ -84,7 +84,7 @@ pub fn look_up_sound(diagram: &[u16], request: Request, cards: &mut [u16]) -> An
     let from = place + 3;
     let to = from + count;
     store(&diagram[from..to], cards);
-    Answer::ruled(diagram[place + 1] as u8, count)
+    Answer::ruled(diagram[place + 1] as u8, count, 0)
 }
 
 // Rules on a request by a diagram: the decision, and in the list the terminal's cards, with zeros after them.

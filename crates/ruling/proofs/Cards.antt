@@ -8,9 +8,9 @@ use native.Mathlib.Omega.{arith}
 use borrow.Author.Tests.{le-leb, lt-leb}
 use lib.Dec.{leb}
 use lib.ListN.{length}
+use Rattle.answer.proofs.Tests.{and-false}
 use Rattle.table.specs.Layout.{kind, card}
 use Rattle.ruling.specs.Meaning.{matches, cardsFrom}
-use Rattle.ruling.proofs.Tests.{and-false}
 
 module _ (a : ℕ → Bool) (t : List ℕ) where
   pub matches-rule : (i : ℕ) → a i ≡ true → 4 ≤ kind t i → matches a t i ≡ true

@@ -10,6 +10,7 @@ use native.Mathlib.Nat.{eq-or-lt-of-le}
 use native.Mathlib.Omega.{arith}
 use lib.ListN.{getD, length, length-append}
 use lib.Seq.{getD-at}
+use Rattle.answer.specs.Below.{countBelow}
 use Rattle.table.specs.Layout.{count, card}
 use Rattle.ruling.specs.Meaning.{matches, cardsFrom, cards, matching}
 use Rattle.ruling.proofs.Cards.{cards-none, cards-more, cards-join}
@@ -23,10 +24,15 @@ pub record Origin (a : ℕ → Bool) (t : List ℕ) (n k : ℕ) : Type 0 where
 
 module _ (a : ℕ → Bool) (t : List ℕ) where
   matching-more : (n : ℕ) (b : Bool) → matches a t n ≡ b → matching a t (suc n) ≡ cond b (suc (matching a t n)) (matching a t n)
+  unfolding countBelow
   matching-more n b e = ap (λ x. cond x (suc (matching a t n)) (matching a t n)) e
 
+  matching-none : matching a t 0 ≡ 0
+  unfolding countBelow
+  matching-none = refl
+
   counted : (n : ℕ) → length (cardsFrom a t 0 n) ≡ matching a t n
-  counted zero = ap length (cards-none a t 0)
+  counted zero = ap length (cards-none a t 0) ∙ sym matching-none
   counted (suc n) =
       let z : suc n ≡ n + 1 = omega arith in
       let y : 0 + n ≡ n = omega arith in
@@ -61,7 +67,7 @@ module _ (a : ℕ → Bool) (t : List ℕ) where
       ∙ getD-at (cardsFrom a t 0 i) (card t i) rest 0 (matching a t i) (counted i)
 
   origin : (n k : ℕ) → k < matching a t n → Origin a t n k
-  origin zero k l = absurd (omega arith)
+  origin zero k l = absurd (omega (arith, matching-none))
   origin (suc n) k l = by (matches a t n) refl (λ h. origin n k h)
     where
       later : Origin a t n k → Origin a t (suc n) k

@@ -81,10 +81,11 @@ module _ (t q : List ℕ) (w : WellFormed t) where
         (lt-or-ge (kind t i) 4)
 
   worded : (n i end : ℕ) → SpansInside t i end → childrenAsWorded t q (forestWithin n t i end) ≡ children a t (forestWithin n t i end)
-  worded =
+  worded n i end r =
       level-by-level t w (childrenAsWorded t q) (children a t) (λ i cs. childOf a i (givesAsWorded t q i cs)) (λ i cs. childOf a i (gives a t i cs))
       (record { none = refl; more = λ i u v. refl }) (children-list a t)
-      (λ n i c. ap (childOf a i) (gives-as-worded i c (children a t (forestWithin n t (i + 1) (endOf t i))) (λ l e. quiet n i c e l)))
+      0 (count t) (λ m j lo hi c. ap (childOf a j) (gives-as-worded j c (children a t (forestWithin m t (j + 1) (endOf t j))) (λ l e. quiet m j c e l)))
+      n i end (omega arith) (r .inside) r
 
 -- the decision of every node of an accepted table
 pub decision-as-worded : (t q : List ℕ) → Accepted t → (i : ℕ) → i < count t →

@@ -1,16 +1,19 @@
--- Laws of a value in a range and of a target that is tested field by field, one for each way through the code.
+-- Laws of a value in a range, and of a target whose fields after the first are tested one by one, one for each way through the code.
 -- Assumes nothing.
-use mathlib.Core.Path.{_≡_, sym, ap, _∙_}
+use mathlib.Core.Path.{_≡_, sym, ap, ap₂, _∙_}
 use mathlib.Core.Bool.{Bool, true, false, _&&_}
-use mathlib.Core.List.{List}
-use Prim.Native.Nat.{ℕ, _+_, _≤_, _<_}
+use mathlib.Core.List.{List, _∷_}
+use Prim.Native.Nat.{ℕ, suc, _+_, _-_, _≤_, _<_}
+use native.Mathlib.Numerals.{add-one}
 use borrow.Author.Tests.{le-leb, lt-leb}
 use lib.Dec.{leb}
 use Rattle.answer.specs.Fields.{fields}
 use Rattle.answer.specs.Requests.{value}
 use Rattle.table.specs.Layout.{low, high}
-use Rattle.ruling.specs.Targets.{everyBelow, inRange, fieldHolds, targetHolds}
-use Rattle.ruling.proofs.Tests.{every-more, every-false}
+use Rattle.answer.specs.Below.{everyBelow}
+use Rattle.ruling.specs.Targets.{inRange, fieldHolds, targetHolds}
+use Rattle.ruling.specs.Walk.{othersHold}
+use Rattle.answer.proofs.Below.{every-more, every-false, every-first}
 
 pub in-range-high : (low high v : ℕ) → low ≤ v → leb v high ≡ inRange low high v
 unfolding inRange
@@ -20,21 +23,30 @@ pub in-range-low : (low high v : ℕ) → v < low → false ≡ inRange low high
 unfolding inRange
 in-range-low low high v l = sym (ap (λ b. b && leb v high) (lt-leb low v l))
 
-module _ (t q : List ℕ) (i : ℕ) where
-  -- what the test of field f tells
-  tested : (f l h : ℕ) (b : Bool) → l ≡ low t i f → h ≡ high t i f → b ≡ inRange l h (value q f) → fieldHolds t q i f ≡ b
+-- a target holds for a subject in its range of subjects, where the other values lie in their ranges
+pub target-parts : (t others : List ℕ) (i k : ℕ) → targetHolds t (k ∷ others) i ≡ inRange (low t i 0) (high t i 0) k && othersHold t others i
+unfolding targetHolds othersHold
+target-parts t others i k = every-first (fieldHolds t (k ∷ others) i) (fields - 1)
+
+module _ (t others : List ℕ) (i : ℕ) where
+  -- the value of a field after the first lies in node i's range
+  abbrev pub otherHolds : ℕ → Bool
+  otherHolds f = fieldHolds t (0 ∷ others) i (suc f)
+
+  -- what the test of such a field tells
+  tested : (f l h : ℕ) (b : Bool) → l ≡ low t i (f + 1) → h ≡ high t i (f + 1) → b ≡ inRange l h (value others f) → otherHolds f ≡ b
   tested f l h b el eh e =
-      sym (e ∙ ap (λ n. inRange n h (value q f)) el ∙ ap (λ n. inRange (low t i f) n (value q f)) eh)
+      sym (e ∙ ap₂ (λ x y. inRange x y (value others f)) (el ∙ ap (low t i) (add-one f)) (eh ∙ ap (high t i) (add-one f)))
 
-  pub target-fails : (f l h : ℕ) (b : Bool) → f < fields → l ≡ low t i f → h ≡ high t i f → b ≡ inRange l h (value q f) → b ≡ false →
-      false ≡ targetHolds t q i
-  unfolding targetHolds
-  target-fails f l h b m el eh e n = sym (every-false (fieldHolds t q i) fields f m (tested f l h b el eh e ∙ n))
+  pub others-fail : (f l h : ℕ) (b : Bool) → f < fields - 1 → l ≡ low t i (f + 1) → h ≡ high t i (f + 1) → b ≡ inRange l h (value others f) →
+      b ≡ false → false ≡ othersHold t others i
+  unfolding othersHold
+  others-fail f l h b m el eh e n = sym (every-false otherHolds (fields - 1) f m (tested f l h b el eh e ∙ n))
 
-  pub target-next : (f l h : ℕ) (b : Bool) → l ≡ low t i f → h ≡ high t i f → b ≡ inRange l h (value q f) → b ≡ true →
-      everyBelow f (fieldHolds t q i) ≡ true → everyBelow (f + 1) (fieldHolds t q i) ≡ true
-  target-next f l h b el eh e y r = every-more (fieldHolds t q i) f r (tested f l h b el eh e ∙ y)
+  pub others-next : (f l h : ℕ) (b : Bool) → l ≡ low t i (f + 1) → h ≡ high t i (f + 1) → b ≡ inRange l h (value others f) → b ≡ true →
+      everyBelow f otherHolds ≡ true → everyBelow (f + 1) otherHolds ≡ true
+  others-next f l h b el eh e y r = every-more otherHolds f r (tested f l h b el eh e ∙ y)
 
-  pub target-all : (f : ℕ) → f ≡ fields → everyBelow f (fieldHolds t q i) ≡ true → true ≡ targetHolds t q i
-  unfolding targetHolds
-  target-all f e r = sym r ∙ ap (λ n. everyBelow n (fieldHolds t q i)) e
+  pub others-all : (f : ℕ) → f ≡ fields - 1 → everyBelow f otherHolds ≡ true → true ≡ othersHold t others i
+  unfolding othersHold
+  others-all f e r = sym r ∙ ap (λ n. everyBelow n otherHolds) e

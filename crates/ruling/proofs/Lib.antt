@@ -1,18 +1,24 @@
 -- What the proofs of several functions use, and the theorems about ruling.
-pub mod Tests
 pub mod Forest
 pub mod LevelByLevel
 pub mod FieldByField
+pub mod SubjectsInRange
 pub mod Throughout
 pub mod Applies
+pub mod MembersLeft
 pub mod Cards
 pub mod Decisions
 pub mod Steps
 pub mod ChildByChild
+pub mod Members
 pub mod AppliesByParents
+pub mod SubjectsByParents
 pub mod ChildrenByParents
+pub mod DecisionByChildren
 pub mod CardsOfMatchingRules
 pub mod RulingGoesByWhichApply
+pub mod OneSubject
+pub mod WithinTogether
 pub mod DecisionIsOneOfFour
 pub mod AtMost127Cards
 pub mod NoCardIsZero

@@ -66,9 +66,9 @@ module _ (a : ℕ → Bool) (t : List ℕ) (w : WellFormed t) where
   gathered-none i end k list l = gathered-not i end k list (λ m x y. absurd (omega arith))
 
   -- the card of a rule that matches
-  pub gathered-rule : (i end k c : ℕ) (before after : List ℕ) → Node a t i end k → 4 ≤ kind t i → c ≡ card t i → after ≡ set before k c →
-      Gathered a t i end k (k + 1) before after
-  gathered-rule i end k c before after n l ec e =
+  pub gathered-rule : (i end k m : ℕ) (before after : List ℕ) → Node a t i end k → 4 ≤ kind t i → m ≡ k + 1 → after ≡ set before k (card t i) →
+      Gathered a t i end k m before after
+  gathered-rule i end k m before after n l em e =
       let z : end - i ≡ 1 = omega (arith, n .ends, w .rules i (n .some) l) in
       let m = matches-rule a t i (n .applies) l in
       let cs : cardsBetween a t i end ≡ card t i ∷ [] =
@@ -76,7 +76,7 @@ module _ (a : ℕ → Bool) (t : List ℕ) (w : WellFormed t) where
       ∙ ap (λ ds. card t i ∷ ds) (cards-none a t (i + 1)) in
       record {
         number = omega (arith, ap length cs);
-        list = e ∙ ap (set before k) ec ∙ sym (ap (sets before k) cs);
+        list = e ∙ sym (ap (sets before k) cs);
       }
 
   -- the cards of a group are those of the nodes under it

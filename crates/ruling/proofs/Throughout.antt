@@ -14,9 +14,9 @@ use Rattle.table.specs.Layout.{span, count}
 use Rattle.table.specs.Tree.{endOf}
 use Rattle.table.specs.WellFormed.{WellFormed}
 use Rattle.table.proofs.ParentsAndSpansAgree.{reaches-through}
-use Rattle.ruling.specs.Targets.{everyBelow}
+use Rattle.answer.specs.Below.{everyBelow}
 use Rattle.ruling.specs.Walk.{HoldAbove}
-use Rattle.ruling.proofs.Tests.{every-true, every-false, every-each}
+use Rattle.answer.proofs.Below.{every-true, every-false, every-each}
 
 -- the test passes at node j, or the span of j does not reach over node i
 abbrev pub passes : List ℕ → (ℕ → Bool) → ℕ → ℕ → Bool

@@ -1,10 +1,12 @@
 -- What the groups of a table give, as document 01 words it under "How a table rules".
--- Everything here goes by which nodes apply, a test of node numbers. The table's own, for a request, is `applies` of Targets.
+-- Everything here goes by which nodes apply, a test of node numbers: for a request that is `applies` of Targets, for several subjects that
+-- ask together `appliesToSome` of Subjects.
 -- Assumes nothing: these are definitions.
 use mathlib.Core.Bool.{Bool, cond, _&&_}
 use mathlib.Core.List.{List, [], _∷_}
 use Prim.Native.Nat.{ℕ, zero, suc, _+_}
 use lib.Dec.{eqb}
+use Rattle.answer.specs.Below.{countBelow}
 use Rattle.answer.specs.Rulings.{Ruling}
 use Rattle.combining.specs.Kinds.{permitRuleKind}
 use Rattle.combining.specs.Ways.{notApplicable, permit, deny, Child, heard, way}
@@ -49,8 +51,7 @@ cards a t = cardsFrom a t 0 (count t)
 
 -- "as count, the number of matching rules": of those among the nodes below n
 abbrev pub matching : (ℕ → Bool) → List ℕ → ℕ → ℕ
-matching a t zero = 0
-matching a t (suc n) = cond (matches a t n) (suc (matching a t n)) (matching a t n)
+matching a t n = countBelow n (matches a t)
 
 -- the ruling of a table: the root's decision, and the cards
 abbrev pub meaning : (ℕ → Bool) → List ℕ → Ruling

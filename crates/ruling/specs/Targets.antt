@@ -1,18 +1,14 @@
 -- When a target holds, and when a node applies, as document 01 words it under "How a table rules".
 -- Assumes nothing: these are definitions.
-use mathlib.Core.Bool.{Bool, true, not, _&&_, _||_}
+use mathlib.Core.Bool.{Bool, not, _&&_, _||_}
 use mathlib.Core.List.{List}
-use Prim.Native.Nat.{ℕ, zero, suc}
+use Prim.Native.Nat.{ℕ, suc}
 use lib.Dec.{leb, ltb}
+use Rattle.answer.specs.Below.{everyBelow}
 use Rattle.answer.specs.Fields.{fields}
 use Rattle.answer.specs.Requests.{value}
 use Rattle.table.specs.Layout.{low, high}
 use Rattle.table.specs.Tree.{endOf}
-
--- the test passes at each number below n
-abbrev pub everyBelow : ℕ → (ℕ → Bool) → Bool
-everyBelow zero p = true
-everyBelow (suc n) p = everyBelow n p && p n
 
 -- "low and high [..], both ends included": the value lies in the range
 unfoldable pub inRange : ℕ → ℕ → ℕ → Bool

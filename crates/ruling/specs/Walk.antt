@@ -1,18 +1,34 @@
 -- What ruling a node, or a run of nodes, starts from and leaves (for the contracts inside the crate). The test a says which nodes apply.
 -- Assumes nothing: these are definitions.
 use mathlib.Core.Bool.{Bool, true}
-use mathlib.Core.List.{List}
+use mathlib.Core.List.{List, _∷_}
 use mathlib.Core.Path.{_≡_}
-use Prim.Native.Nat.{ℕ, _+_, _-_, _≤_, _<_}
+use Prim.Native.Nat.{ℕ, suc, _+_, _-_, _≤_, _<_}
 use lib.ListN.{length}
 use lib.Seq.{sets}
+use Rattle.answer.specs.Below.{everyBelow}
+use Rattle.answer.specs.Fields.{fields}
 use Rattle.table.specs.Layout.{count}
 use Rattle.table.specs.Tree.{endOf}
+use Rattle.ruling.specs.Targets.{fieldHolds, targetHolds, applies}
+use Rattle.ruling.specs.Subjects.{member}
 use Rattle.ruling.specs.Meaning.{cardsFrom}
 
--- What the walk carries to node i: h, the test of a node's own target, passes at every node above it.
+-- the values of all fields but the first, the subject, lie in node i's ranges
+unfoldable pub othersHold : List ℕ → List ℕ → ℕ → Bool
+othersHold t others i = everyBelow (fields - 1) (λ f. fieldHolds t (0 ∷ others) i (suc f))
+
+-- h, the test of a node's own target, passes at every node above node i
 abbrev pub HoldAbove : List ℕ → (ℕ → Bool) → ℕ → Type 0
 HoldAbove t h i = (j : ℕ) → j < i → i < endOf t j → h j ≡ true
+
+-- What the walk carries to node i: for each member of the set s that is left, every target above it holds.
+abbrev pub MembersPass : List ℕ → ℕ → List ℕ → ℕ → Type 0
+MembersPass t s others i = (k : ℕ) → member s k ≡ true → HoldAbove t (targetHolds t (k ∷ others)) i
+
+-- node i applies to each member of the set s
+abbrev pub AppliesToEach : List ℕ → ℕ → List ℕ → ℕ → Type 0
+AppliesToEach t s others i = (k : ℕ) → member s k ≡ true → applies t (k ∷ others) i ≡ true
 
 -- Node i is one of the table's, with the nodes under it up to end; it applies, and there are no more cards so far than nodes.
 pub record Node (a : ℕ → Bool) (t : List ℕ) (i end cards : ℕ) : Type 0 where

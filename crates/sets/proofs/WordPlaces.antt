@@ -1,17 +1,17 @@
 -- Which places of a word are set after the bit operations.
 -- Assumes nothing.
-use mathlib.Core.Path.{_≡_, refl, sym, ap, _∙_}
+use mathlib.Core.Path.{_≡_, refl, sym, ap, ap₂, _∙_}
 use mathlib.Core.Bool.{Bool, true, false, cond, not, _&&_, _||_}
 use mathlib.Core.Logic.{⊎-elim}
 use Prim.Native.Nat.{ℕ, zero, suc, _+_, _-_, _*_, _/_, _%_, _^_, _≤_, _<_, min, max}
-use native.Mathlib.Nat.{mod-lt, div-one, div-eq-of-lt, mul-assoc, eq-or-lt-of-le, zero-lt-suc, one-mul, lt-of-lt-of-le, pow-suc}
+use native.Mathlib.Nat.{mod-lt, div-one, div-eq-of-lt, eq-or-lt-of-le, zero-lt-suc, lt-of-lt-of-le, pow-suc}
 use native.Mathlib.Numerals.{one-add}
 use native.Mathlib.Omega.{arith}
-use borrow.Author.Tests.{eq-eqb, ne-eqb, lt-ltb, le-ltb}
+use borrow.Author.Tests.{eq-eqb, ne-eqb, lt-ltb, le-ltb, lt-leb, le-leb}
 use lib.Arith.{digits-mod}
-use lib.Bits.{bitAnd, bitOr, bitXor, differ, and-step, or-step, xor-step, and-shr, or-shr, xor-shr, and-mask, shifted-even}
-use lib.Pow.{pow-lt, pow-add, pow-mono, pow-pos, shl-shr, shl-exact, shr-shr}
-use lib.Dec.{eqb, ltb, lit<}
+use lib.Bits.{bitAnd, bitOr, bitXor, differ, and-step, or-step, xor-step, and-shr, or-shr, xor-shr, and-mask, shifted-half, shifted-even}
+use lib.Pow.{pow-mono, pow-pos, shr-shr}
+use lib.Dec.{eqb, ltb, leb, lit<}
 use Rattle.answer.proofs.Tests.{lt-or-ge}
 use Rattle.sets.specs.Sets.{bit}
 
@@ -19,8 +19,11 @@ use Rattle.sets.specs.Sets.{bit}
 pub ltb-alike : (a b c d : ℕ) → (a < b → c < d) → (b ≤ a → d ≤ c) → ltb a b ≡ ltb c d
 ltb-alike a b c d same more = ⊎-elim (λ l. lt-ltb a b l ∙ sym (lt-ltb c d (same l))) (λ l. le-ltb a b l ∙ sym (le-ltb c d (more l))) (lt-or-ge a b)
 
+leb-alike : (a b c d : ℕ) → (a ≤ b → c ≤ d) → (b < a → d < c) → leb a b ≡ leb c d
+leb-alike a b c d same more = ⊎-elim (λ l. lt-leb a b l ∙ sym (lt-leb c d (more l))) (λ l. le-leb a b l ∙ sym (le-leb c d (same l))) (lt-or-ge b a)
+
 -- a fact of both digits is one of a number below 2
-two : (P : ℕ → Type 0) → P 0 → P 1 → (x : ℕ) → x < 2 → P x
+pub two : (P : ℕ → Type 0) → P 0 → P 1 → (x : ℕ) → x < 2 → P x
 two P a b zero l = a
 two P a b (suc zero) l = b
 two P a b (suc (suc x)) l = absurd (omega arith)
@@ -98,21 +101,37 @@ pub bit-read : (w i : ℕ) → eqb (bitAnd (w / 2 ^ i) 1) 1 ≡ bit w i
 unfolding bit
 bit-read w i = ap (λ n. eqb n 1) (and-mask (w / 2 ^ i) 1)
 
+-- a word cut at its first k places
+bit-within : (n k i : ℕ) → bit (n % 2 ^ k) i ≡ bit n i && ltb i k
+bit-within n k i = ap (λ m. bit m i) (sym (and-mask n k)) ∙ bit-and n (2 ^ k - 1) i ∙ ap (λ b. bit n i && b) (bit-all k i)
+
+-- a number shifted up by i places
+bit-up : (w i j : ℕ) → bit (w * 2 ^ i) j ≡ leb i j && bit w (j - i)
+bit-up w zero j =
+    let z : w * 2 ^ 0 ≡ w = omega arith in
+    let y : j ≡ j - 0 = omega arith in
+    ap (λ n. bit n j) z ∙ ap (bit w) y ∙ sym (ap (λ b. b && bit w (j - 0)) (le-leb 0 j (omega arith)))
+bit-up w (suc i) zero =
+    bit-first (w * 2 ^ suc i) ∙ ap (λ n. eqb n 1) (shifted-even w i) ∙ sym (ap (λ b. b && bit w (0 - suc i)) (lt-leb (suc i) 0 (omega arith)))
+bit-up w (suc i) (suc j) =
+    let y : j - i ≡ suc j - suc i = omega arith in
+    bit-later (w * 2 ^ suc i) j ∙ ap (λ n. bit n j) (shifted-half w i) ∙ bit-up w i j
+    ∙ ap₂ (λ b k. b && bit w k) (leb-alike i j (suc i) (suc j) (λ l. omega arith) (λ l. omega arith)) y
+
+-- a word shifted up by i places
+pub bit-left : (w i j : ℕ) → bit (w * 2 ^ i % 2 ^ 64) j ≡ (leb i j && bit w (j - i)) && ltb j 64
+bit-left w i j = bit-within (w * 2 ^ i) 64 j ∙ ap (λ b. b && ltb j 64) (bit-up w i j)
+
 -- the word with one place set
 pub bit-only : (i j : ℕ) → i < 64 → bit (1 * 2 ^ i % 2 ^ 64) j ≡ eqb i j
-unfolding bit
 bit-only i j l =
-    ap (λ n. eqb (n / 2 ^ j % 2) 1) (shl-exact 1 i 64 (lit< tt) (omega arith))
+    bit-left 1 i j ∙ ap (λ b. (leb i j && b) && ltb j 64) (bit-all 1 (j - i))
     ∙ ⊎-elim
-    (λ (h : i < j). ap (λ n. eqb (n % 2) 1) (div-eq-of-lt {n = 1 * 2 ^ i} {m = 2 ^ j} (rw (one-mul (2 ^ i)) (pow-lt h))) ∙ sym (ne-eqb i j (λ e. omega arith)))
-    (λ (h : j ≤ i).
-    ⊎-elim
-    (λ (e : j ≡ i). rw e (ap (λ n. eqb (n % 2) 1) (shl-shr 1 i)) ∙ sym (eq-eqb i j (sym e)))
-    (λ (m : j < i).
-    let z : i ≡ suc (i - suc j) + j = omega arith in
-    ap (λ n. eqb (n / 2 ^ j % 2) 1) (ap (λ n. 1 * 2 ^ n) z ∙ ap (λ n. 1 * n) (pow-add 2 (suc (i - suc j)) j) ∙ sym (mul-assoc 1 (2 ^ suc (i - suc j)) (2 ^ j)))
-    ∙ ap (λ n. eqb (n % 2) 1) (shl-shr (1 * 2 ^ suc (i - suc j)) j)
-    ∙ ap (λ n. eqb n 1) (shifted-even 1 (i - suc j))
-    ∙ sym (ne-eqb i j (λ e. omega arith)))
+    (λ (h : j < i). ap (λ b. (b && ltb (j - i) 1) && ltb j 64) (lt-leb i j h) ∙ sym (ne-eqb i j (λ e. omega arith)))
+    (λ (h : i ≤ j).
+    ap (λ b. (b && ltb (j - i) 1) && ltb j 64) (le-leb i j h)
+    ∙ ⊎-elim
+    (λ (e : i ≡ j). ap₂ (λ a b. a && b) (lt-ltb (j - i) 1 (omega arith)) (lt-ltb j 64 (omega arith)) ∙ sym (eq-eqb i j e))
+    (λ (m : i < j). ap (λ b. b && ltb j 64) (le-ltb (j - i) 1 (omega arith)) ∙ sym (ne-eqb i j (λ e. omega arith)))
     (eq-or-lt-of-le h))
-    (lt-or-ge i j)
+    (lt-or-ge j i)

@@ -3,10 +3,11 @@ ghost use mathlib.Core.Path.{_≡_};
 ghost use mathlib.Core.Bool.{false, not, _&&_, _||_};
 ghost use Prim.Native.Nat.{ℕ, _≤_, _<_};
 ghost use lib.Dec.{eqb, ltb};
+ghost use Rattle.answer.specs.Below.{countBelow};
 ghost use Rattle.sets.specs.Sets.{most, bit, has, Has, same, Next};
 
 // How many places a word has.
-const WORD: usize = 64;
+pub const WORD: usize = 64;
 
 // How many numbers a set is over.
 pub const MOST: usize = 2 * WORD;
@@ -27,8 +28,15 @@ fn only(i: usize) -> u64
     1 << i
 }
 
+// How many places of a word are set.
+pub fn ones_at(word: u64) -> usize
+    ensures { λ r. ⌜ r ≡ countBelow 64 (bit word) ⌝ }
+{
+    u64::count_ones(word) as usize
+}
+
 // The least place of a word from i up that is set, or 64.
-fn next_at(word: u64, i: usize) -> usize
+pub fn next_at(word: u64, i: usize) -> usize
     requires { ⌜ i < 64 ⌝ }
     ensures { λ r. ⌜ Next 64 (bit word) i r ⌝ }
 {

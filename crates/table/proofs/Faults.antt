@@ -2,8 +2,10 @@
 -- Assumes nothing.
 use mathlib.Core.Path.{_≡_, sym, ap, _∙_}
 use mathlib.Core.Bool.{Bool, true, false, not, cond, _||_}
+use mathlib.Core.Logic.{⊎-elim}
 use mathlib.Core.List.{List}
 use Prim.Native.Nat.{ℕ, _+_, _≤_, _<_}
+use native.Mathlib.Nat.{eq-zero-or-pos}
 use native.Mathlib.Omega.{arith}
 use borrow.Author.Tests.{lt-ltb, le-ltb, eq-eqb, ne-eqb, ltb-false}
 use lib.Dec.{ltb, eqb}
@@ -13,7 +15,7 @@ use Rattle.table.specs.Layout.{bytesAfter, count, header, start, maximum
 use Rattle.table.specs.Tree.{isRule, endOf, parent, level}
 use Rattle.table.specs.Open.{EndAbove}
 use Rattle.table.specs.Reading.{lengthFault, countFault, kindFault, oddSpan, wrongEnd, spanFault, levelFault, rangeFault, refusalsAfterKind, nodeRefusals}
-use Rattle.table.proofs.Tests.{neither}
+use Rattle.answer.proofs.Tests.{neither}
 
 module _ (t : List ℕ) where
   -- refusal 1
@@ -66,15 +68,27 @@ module _ (t : List ℕ) where
       pub span-odd : odd ≡ true → true ≡ spanFault t i
       span-odd h = sym (span-by ∙ ap (λ b. b || wrongEnd t i) h)
 
-      pub span-root : odd ≡ false → i ≡ 0 → (above : ℕ) → EndAbove t i above → not (eqb s above) ≡ spanFault t i
-      span-root h z above a =
-          sym (span-by ∙ ap (λ b. b || wrongEnd t i) h ∙ wrong-end-root z
-          ∙ ap (λ n. not (eqb (span t i) n)) (sym (a .root z)) ∙ ap (λ n. not (eqb n above)) (sym es))
+      module _ (h : odd ≡ false) (above : ℕ) (a : EndAbove t i above) where
+        pub span-root : i ≡ 0 → not (eqb s above) ≡ spanFault t i
+        span-root z =
+            sym (span-by ∙ ap (λ b. b || wrongEnd t i) h ∙ wrong-end-root z
+            ∙ ap (λ n. not (eqb (span t i) n)) (sym (a .root z)) ∙ ap (λ n. not (eqb n above)) (sym es))
 
-      pub span-child : odd ≡ false → 0 < i → (above : ℕ) → EndAbove t i above → ltb above (i + s) ≡ spanFault t i
-      span-child h l above a =
-          sym (span-by ∙ ap (λ b. b || wrongEnd t i) h ∙ wrong-end-child l
-          ∙ ap (λ n. ltb n (endOf t i)) (sym (a .child l)) ∙ ap (λ n. ltb above (i + n)) (sym es))
+        span-child : 0 < i → ltb above (i + s) ≡ spanFault t i
+        span-child l =
+            sym (span-by ∙ ap (λ b. b || wrongEnd t i) h ∙ wrong-end-child l
+            ∙ ap (λ n. ltb n (endOf t i)) (sym (a .child l)) ∙ ap (λ n. ltb above (i + n)) (sym es))
+
+        -- the end is past that above, whether node i is the root or not
+        pub span-past : above < i + s → true ≡ spanFault t i
+        span-past l =
+            ⊎-elim
+            (λ (z : i ≡ 0). sym (ap not (ne-eqb s above (λ q. omega arith))) ∙ span-root z)
+            (λ (z : 0 < i). sym (lt-ltb above (i + s) l) ∙ span-child z)
+            (eq-zero-or-pos i)
+
+        pub span-inside : 0 < i → i + s ≤ above → false ≡ spanFault t i
+        span-inside z l = sym (le-ltb above (i + s) l) ∙ span-child z
 
     -- refusal 6, of a node under one on level d
     module _ (d : ℕ) (e : level t i ≡ d + 1) where

@@ -13,7 +13,8 @@ use Rattle.table.specs.Layout.{maximum, count, kind, span, card, low, hi
 use Rattle.table.specs.Tree.{isRule, endOf, parent, level}
 use Rattle.table.specs.Reading.{kindFault, oddSpan, wrongEnd, spanFault, levelFault, rangeFault, rangesFault, cardFault, nodeRefusals}
 use Rattle.table.proofs.Faults.{wrong-end-root, wrong-end-child}
-use Rattle.table.proofs.Tests.{neither, none-below}
+use Rattle.answer.proofs.Tests.{neither}
+use Rattle.answer.proofs.Below.{none-each}
 
 pub record Good (t : List ℕ) (i : ℕ) : Type 0 where
   pub kinds : kind t i ≤ 5
@@ -43,7 +44,7 @@ module _ (t : List ℕ) (i : ℕ) where
 
   ranges-parts : rangesFault t i ≡ false → (f : ℕ) → f < fields → rangeFault t i f ≡ false
   unfolding rangesFault
-  ranges-parts e f l = none-below (rangeFault t i) fields e f l
+  ranges-parts e f l = none-each (rangeFault t i) fields e f l
 
   card-rule : cardFault t i ≡ false → 4 ≤ kind t i → 1 ≤ card t i
   unfolding cardFault

@@ -11,7 +11,7 @@ use lib.ListN.{length}
 use Rattle.answer.specs.Refusals.{None}
 use Rattle.table.specs.Layout.{count, start, HeaderHeld}
 use Rattle.table.specs.Reading.{countFault, headerRefusals}
-use Rattle.table.proofs.Tests.{neither}
+use Rattle.answer.proofs.Tests.{neither}
 use Rattle.table.proofs.Faults.{length-passed}
 
 pub record Headed (t : List ℕ) : Type 0 where

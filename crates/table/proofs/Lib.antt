@@ -1,5 +1,4 @@
 -- What the proofs of several functions use, and the theorems about reading.
-pub mod Tests
 pub mod Places
 pub mod Tree
 pub mod Faults

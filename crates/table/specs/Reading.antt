@@ -1,10 +1,11 @@
 -- When a table is refused, and what reading one answers: document 01's refusals 1 to 8, in the order of its table.
 -- Assumes nothing: these are definitions.
-use mathlib.Core.Bool.{Bool, false, not, cond, _&&_, _||_}
+use mathlib.Core.Bool.{Bool, not, cond, _&&_, _||_}
 use mathlib.Core.List.{List, [], _∷_, _++_}
-use Prim.Native.Nat.{ℕ, zero, suc, _+_}
+use Prim.Native.Nat.{ℕ, _+_}
 use lib.Dec.{eqb, ltb}
 use lib.ListN.{length}
+use Rattle.answer.specs.Below.{someBelow}
 use Rattle.answer.specs.Fields.{fields}
 use Rattle.answer.specs.Answers.{refused, counted}
 use Rattle.answer.specs.Refusals.{Refusal, row, upward, settled, None}
@@ -44,11 +45,6 @@ spanFault t i = oddSpan (span t i) (isRule t i) || wrongEnd t i
 -- 6: "level 9 or deeper"
 unfoldable pub levelFault : List ℕ → ℕ → Bool
 levelFault t i = ltb 8 (level t i)
-
--- the test passes at some number below n
-abbrev pub someBelow : ℕ → (ℕ → Bool) → Bool
-someBelow zero p = false
-someBelow (suc n) p = someBelow n p || p n
 
 -- 7: "low over high, or high over the maximum", in field f
 unfoldable pub rangeFault : List ℕ → ℕ → ℕ → Bool

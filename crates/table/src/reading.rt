@@ -96,10 +96,12 @@ fn span_fault(table: &[u8], i: usize, rule: bool, above: usize) -> bool
     let span = span_at(table, i);
     if odd_span(span, rule) {
         true
+    } else if above < i + span {
+        true
     } else if i == 0 {
         span != above
     } else {
-        above < i + span
+        false
     }
 }
 

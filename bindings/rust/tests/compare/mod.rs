@@ -4,17 +4,17 @@ use std::fmt::Debug;
 use std::iter;
 use std::sync::Mutex;
 
-use kolfsein::{Decision, Reason, Refusal, Request, Ruling};
+use kolfsein::{Decision, JointRequest, Reason, Refusal, Request, Subjects};
 
-use crate::evaluator::{Due, Refused, Ruled, Values};
+use crate::evaluator::{Due, Joint, Refused, Ruled, Values, MOST_SUBJECTS};
 
 /// What stands in lent places before a call, and around them: no 0, and seldom a card.
 const MARK: u16 = 0xA5A5;
 const AROUND: usize = 4;
 
 /// How many tests compare, and how many comparisons all of them make at least.
-const TESTS: usize = 12;
-const COMPARISONS: u64 = 450_000_000;
+const TESTS: usize = 15;
+const COMPARISONS: u64 = 500_000_000;
 
 /// What the tests that ended did.
 static ENDED: Mutex<Ended> = Mutex::new(Ended {
@@ -34,8 +34,11 @@ pub struct Compare {
     case: (&'static str, usize),
     comparisons: u64,
     /// How often each number, 0 or a refusal's, and each decision was due.
-    numbers: [u64; 13],
+    numbers: [u64; 14],
     decisions: [u64; 4],
+    /// How often sets of each size were ruled on, and sets with each subject.
+    sizes: [u64; 1 + MOST_SUBJECTS as usize],
+    members: [u64; MOST_SUBJECTS as usize],
 }
 
 impl Compare {
@@ -44,8 +47,10 @@ impl Compare {
             test,
             case: ("case", 0),
             comparisons: 0,
-            numbers: [0; 13],
+            numbers: [0; 14],
             decisions: [0; 4],
+            sizes: [0; 1 + MOST_SUBJECTS as usize],
+            members: [0; MOST_SUBJECTS as usize],
         }
     }
 
@@ -65,12 +70,12 @@ impl Compare {
     pub fn rules_with(
         &mut self,
         bytes: &[u8],
-        values: Values,
+        joint: &Joint,
         ruled: &Result<Ruled, Refused>,
         lists: impl IntoIterator<Item = usize>,
     ) {
         for places in lists {
-            self.rules(bytes, values, places, &Due::listed(ruled, places));
+            self.rules(bytes, joint, places, &Due::ruled(ruled, joint, places));
         }
     }
 
@@ -100,11 +105,17 @@ impl Compare {
     }
 
     /// Rules with a list of so many places.
-    pub fn rules(&mut self, bytes: &[u8], values: Values, places: usize, due: &Due) {
+    pub fn rules(&mut self, bytes: &[u8], joint: &Joint, places: usize, due: &Due) {
         let table = bytes.to_vec();
-        let call = |list: &mut [u16]| kolfsein::rule(&table, asked(values), list);
+        let request = asked_together(joint);
+        let call = |list: &mut [u16]| kolfsein::rule(&table, request, list);
         let (answer, list) = self.lend(places, call);
-        self.ruled(answer, due);
+        self.ruled(answer.map(|given| (given.decision, given.count)), due);
+        let subjects = answer.map_or(0, |given| given.subjects);
+        self.same("subjects", subjects, due.subjects);
+        if due.number == 0 {
+            self.tally(joint);
+        }
         self.lent(&list, due);
         self.stays(&table, bytes);
     }
@@ -124,7 +135,7 @@ impl Compare {
         let diagram = numbers.to_vec();
         let call = |list: &mut [u16]| kolfsein::look_up(&diagram, asked(values), list);
         let (answer, list) = self.lend(places, call);
-        self.ruled(answer, due);
+        self.ruled(answer.map(|given| (given.decision, given.count)), due);
         self.lent(&list, due);
         self.stays(&diagram, numbers);
     }
@@ -136,6 +147,14 @@ impl Compare {
             let (case, number) = self.case;
             let test = self.test;
             panic!("{test}, {case} {number}: {what} is {is:?}, due is {due:?}");
+        }
+    }
+
+    /// Sees that sets of each size but 0, and sets with each subject, were ruled on so often.
+    pub fn every_set(&self, often: u64) {
+        for (what, times) in [("size", &self.sizes[1..]), ("member", &self.members)] {
+            let enough = times.iter().all(|&times| times >= often);
+            assert!(enough, "{}: sets of each {what} {times:?}", self.test);
         }
     }
 
@@ -164,12 +183,19 @@ impl Compare {
         self.same("count", answer.unwrap_or(0), due.count);
     }
 
-    fn ruled(&mut self, answer: Result<Ruling, Refusal>, due: &Due) {
+    fn ruled(&mut self, answer: Result<(Decision, usize), Refusal>, due: &Due) {
         self.decisions[usize::from(due.decision)] += u64::from(due.number == 0);
         self.refused(answer.err(), due);
-        let given = answer.map_or((0, 0), |ruling| (decision(ruling.decision), ruling.count));
+        let given = answer.map_or((0, 0), |(given, count)| (decision(given), count));
         self.same("decision", given.0, due.decision);
         self.same("count", given.1, due.count);
+    }
+
+    fn tally(&mut self, joint: &Joint) {
+        self.sizes[joint.members.len()] += 1;
+        for &member in &joint.members {
+            self.members[usize::from(member)] += 1;
+        }
     }
 
     fn refused(&mut self, refusal: Option<Refusal>, due: &Due) {
@@ -233,6 +259,16 @@ fn asked([subject, resource, action]: Values) -> Request {
     }
 }
 
+fn asked_together(joint: &Joint) -> JointRequest {
+    let subjects = Subjects::of(joint.members.iter().copied()).expect("members of a set");
+    let [resource, action] = joint.others;
+    JointRequest {
+        subjects,
+        resource,
+        action,
+    }
+}
+
 /// The requirements' numbers.
 fn decision(decision: Decision) -> u8 {
     match decision {
@@ -257,5 +293,6 @@ fn number(reason: Reason) -> u8 {
         Reason::ListTooShort => 10,
         Reason::Room => 11,
         Reason::Diagram => 12,
+        Reason::Subjects => 13,
     }
 }

@@ -94,7 +94,7 @@ impl Diagram {
 
     /// What the diagram gives a request, or refusal 9.
     pub fn look_up(&self, values: Values) -> Result<Ruled, Refused> {
-        within(values, self.maxima)?;
+        within(&values, self.maxima)?;
         let mut place = self.root;
         loop {
             match &self.entries[&place] {

@@ -11,14 +11,49 @@ pub use reader::{Table, HEADER, RECORD};
 /// How many fields a request has: subject, resource, action.
 pub const FIELDS: usize = 3;
 
+/// How many of them are not the subject.
+pub const OTHERS: usize = FIELDS - 1;
+
 /// A value for each field.
 pub type Values = [u16; FIELDS];
+
+/// Every member of a set is below this.
+pub const MOST_SUBJECTS: u16 = 64;
+
+/// Subjects that ask together, each once and rising, and a value for each other field.
+#[derive(Clone, Debug)]
+pub struct Joint {
+    pub members: Vec<u16>,
+    pub others: [u16; OTHERS],
+}
+
+impl Joint {
+    pub fn new(members: impl IntoIterator<Item = u16>, others: [u16; OTHERS]) -> Joint {
+        let mut members: Vec<u16> = members.into_iter().collect();
+        members.sort_unstable();
+        members.dedup();
+        Joint { members, others }
+    }
+
+    /// A request of the set of its one subject; none where no set has that subject.
+    pub fn only(values: Values) -> Option<Joint> {
+        let [subject, others @ ..] = values;
+        (subject < MOST_SUBJECTS).then(|| Joint::new([subject], others))
+    }
+
+    /// What a subject by itself asks.
+    pub fn asked_by(&self, subject: u16) -> Values {
+        let mut values = [subject; FIELDS];
+        values[1..].copy_from_slice(&self.others);
+        values
+    }
+}
 
 /// The most places that a diagram uses.
 pub const MOST_PLACES: usize = 32_768;
 
 /// A refusal's number and place.
-#[derive(Clone, Copy, Debug)]
+#[derive(Clone, Copy, Debug, PartialEq)]
 pub struct Refused(pub u8, pub usize);
 
 /// A decision by its number, and the cards.
@@ -35,6 +70,7 @@ pub struct Due {
     pub place: usize,
     pub decision: u8,
     pub count: usize,
+    pub subjects: usize,
     pub numbers: Vec<u16>,
 }
 
@@ -56,6 +92,16 @@ impl Due {
             },
             Err(refused) => Due::refused(*refused),
         }
+    }
+
+    /// A ruling on a set with a list of so many places.
+    pub fn ruled(ruled: &Result<Ruled, Refused>, joint: &Joint, places: usize) -> Due {
+        let mut due = Due::listed(ruled, places);
+        if due.number == 0 {
+            // "The answer also gives how many figures the party has."
+            due.subjects = joint.members.len();
+        }
+        due
     }
 
     /// A ruling with a list of so many places: 10 where it is shorter than the cards.
@@ -88,9 +134,9 @@ impl Due {
     }
 }
 
-/// What a table gives a request, or the first of refusals 1 to 9.
-pub fn rule(table: &Result<Table, Refused>, values: Values) -> Result<Ruled, Refused> {
-    table.as_ref().map_err(|&refused| refused)?.rule(values)
+/// What a table gives a set, or the first of refusals 1 to 8, 13 and 9.
+pub fn rule(table: &Result<Table, Refused>, joint: &Joint) -> Result<Ruled, Refused> {
+    table.as_ref().map_err(|&refused| refused)?.rule(joint)
 }
 
 /// The diagram of a table, or the first of refusals 1 to 8.
@@ -119,9 +165,10 @@ pub fn every_request(maxima: Values) -> impl Iterator<Item = Values> {
     })
 }
 
-/// Refusal 9: the first field whose value is over its maximum.
-fn within(values: Values, maxima: Values) -> Result<(), Refused> {
-    match (0..FIELDS).find(|&field| values[field] > maxima[field]) {
+/// Refusal 9: the first field whose value is over its maximum. The values are those of the last fields, or of all.
+fn within(values: &[u16], maxima: Values) -> Result<(), Refused> {
+    let first = FIELDS - values.len();
+    match (first..FIELDS).find(|&field| values[field - first] > maxima[field]) {
         Some(field) => Err(Refused(9, field)),
         None => Ok(()),
     }

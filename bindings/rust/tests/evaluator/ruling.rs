@@ -1,7 +1,7 @@
 //! Ruling by a table's groups.
 
 use super::{every_request, reader::Node, within};
-use super::{Refused, Ruled, Table, Values, FIELDS};
+use super::{Joint, Refused, Ruled, Table, Values, FIELDS};
 
 const NONE: u8 = 0;
 const MAY: u8 = 1;
@@ -9,41 +9,60 @@ const NOT: u8 = 2;
 const UNCLEAR: u8 = 3;
 
 impl Table {
-    /// What the groups give a request, or refusal 9.
-    pub fn rule(&self, values: Values) -> Result<Ruled, Refused> {
-        within(values, self.maxima)?;
-        let cards = self.nodes.iter().filter(|node| self.matches(node, values));
-        Ok(Ruled {
-            decision: self.decision(&self.nodes[0], values),
-            cards: cards.map(|node| node.card).collect(),
-        })
+    /// What the groups give a set, or refusal 13 or 9.
+    pub fn rule(&self, joint: &Joint) -> Result<Ruled, Refused> {
+        let members = &joint.members;
+        // "13 when the party is empty or names a figure above the who maximum"
+        if members.is_empty() || members.iter().any(|&member| member > self.maxima[0]) {
+            return Err(Refused(13, 0));
+        }
+        within(&joint.others, self.maxima)?;
+        // "A node holds for the party exactly when at least one member by itself meets its target and every target
+        // above it"
+        Ok(self.given(|node| {
+            let meets = |&member: &u16| self.applies(node, joint.asked_by(member));
+            members.iter().any(meets)
+        }))
+    }
+
+    /// What the groups give a request of one subject, or refusal 9.
+    pub fn rule_one(&self, values: Values) -> Result<Ruled, Refused> {
+        within(&values, self.maxima)?;
+        Ok(self.given(|node| self.applies(node, values)))
     }
 
     /// "Two tables with the same maxima rule alike when the groups give, for every question within them, the same
     /// decision and the same card numbers in the same order."
     pub fn rules_alike(&self, other: &Table) -> bool {
-        let given = |table: &Table, values| table.rule(values).expect("values within the maxima");
+        let given = |table: &Table, values| table.rule_one(values).expect("within the maxima");
         self.maxima == other.maxima
             && every_request(self.maxima).all(|values| given(self, values) == given(other, values))
     }
 
-    /// "A rule matches when its own target and every target above it hold."
-    fn matches(&self, node: &Node, values: Values) -> bool {
-        node.is_rule() && self.applies(node, values)
-    }
-
+    /// A node's own target and every target above it hold.
     fn applies(&self, node: &Node, values: Values) -> bool {
         let above = node.parent.map(|parent| &self.nodes[parent]);
         holds(node, values) && above.is_none_or(|above| self.applies(above, values))
     }
 
-    /// The decision of a node whose targets above hold.
-    fn decision(&self, node: &Node, values: Values) -> u8 {
-        if !holds(node, values) {
+    /// The decision of the root, and the cards of all matching rules, where these nodes apply.
+    fn given(&self, applies: impl Fn(&Node) -> bool) -> Ruled {
+        let applies: Vec<bool> = self.nodes.iter().map(applies).collect();
+        let nodes = self.nodes.iter().zip(&applies);
+        let matching = nodes.filter(|(node, &applies)| node.is_rule() && applies);
+        Ruled {
+            decision: self.decision(0, &applies),
+            cards: matching.map(|(node, _)| node.card).collect(),
+        }
+    }
+
+    fn decision(&self, place: usize, applies: &[bool]) -> u8 {
+        if !applies[place] {
             return NONE;
         }
+        let node = &self.nodes[place];
         let children = node.children.iter();
-        let given = children.map(|&child| self.decision(&self.nodes[child], values));
+        let given = children.map(|&child| self.decision(child, applies));
         match node.kind {
             0 => first(given.collect()),
             1 => only_one(given.collect()),

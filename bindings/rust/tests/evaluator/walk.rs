@@ -48,7 +48,10 @@ impl Walk<'_> {
     }
 
     fn terminal(&mut self, values: Values) -> usize {
-        let ruled = self.table.rule(values).expect("values within the maxima");
+        let ruled = self
+            .table
+            .rule_one(values)
+            .expect("values within the maxima");
         let mut entry = vec![0, ruled.decision.into(), ruled.cards.len()];
         entry.extend(ruled.cards.into_iter().map(usize::from));
         self.enter(entry)

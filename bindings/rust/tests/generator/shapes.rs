@@ -62,6 +62,23 @@ pub fn decisions(kind: u8, given: &[u8]) -> Outline {
     outline
 }
 
+/// A first-applicable group over a rule that permits one subject, with card 10, and one that denies another, with 20.
+pub fn permit_and_deny(permit: u8, deny: u8) -> Outline {
+    let mut outline = Outline::new([63, 0, 0]);
+    outline.add(1, 0, 0, outline.all());
+    outline.add(2, 4, 10, [(permit, permit), (0, 0), (0, 0)]);
+    outline.add(2, 5, 20, [(deny, deny), (0, 0), (0, 0)]);
+    outline
+}
+
+/// A rule for a range of subjects under a group for a range of subjects.
+pub fn two_ranges(most: u8, group: (u8, u8), rule: (u8, u8)) -> Outline {
+    let mut outline = Outline::new([most, 0, 0]);
+    outline.add(1, 0, 0, [group, (0, 0), (0, 0)]);
+    outline.add(2, 4, 1, [rule, (0, 0), (0, 0)]);
+    outline
+}
+
 /// 127 rules, whose ranges in one field begin and end each at another value.
 pub fn spread(field: usize) -> Outline {
     let mut outline = Outline::new([0; FIELDS]);

@@ -23,6 +23,12 @@ fn each_at<'a, T: Copy>(
     })
 }
 
+/// Every range from one to another of some ends, which rise.
+pub fn ranges_of(ends: &[u8]) -> Vec<(u8, u8)> {
+    let highs = |(place, &low): (usize, &u8)| ends[place..].iter().map(move |&high| (low, high));
+    ends.iter().enumerate().flat_map(highs).collect()
+}
+
 /// A table or diagram cut, or lengthened by zeros, to each length up to some: stated as it was, and as it is.
 pub fn each_length<T: Copy + Default>(
     numbers: &[T],

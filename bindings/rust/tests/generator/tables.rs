@@ -6,21 +6,28 @@ use crate::evaluator::FIELDS;
 pub const HARBOUR: &[u8] = include_bytes!("../../../../examples/harbour.table");
 pub const RULEBOOK: &[u8] = include_bytes!("../../../../examples/rulebook.table");
 
-/// Maxima of every sort.
+/// The last subject of a set and those beside it, and the last values of all.
+const LAST: [u8; 6] = [61, 62, 63, 64, 254, 255];
+
+/// Maxima of every sort; now and then the subjects end about where those of a set do.
 pub fn any_maxima(random: &mut Random) -> Maxima {
-    match random.below(5) {
+    let mut maxima = match random.below(5) {
         0 => [255; FIELDS],
         1 => [0; FIELDS].map(|_: u8| random.byte()),
         2 => [12, 20, 10],
         _ => small_maxima(random),
+    };
+    if random.one_in(3) {
+        maxima[0] = random.of(&[61, 62, 63, 64]);
     }
+    maxima
 }
 
-/// Maxima of which every request can be tried; now and then one is as large as it can be.
+/// Maxima of which every request can be tried; now and then one is large.
 pub fn small_maxima(random: &mut Random) -> Maxima {
     let mut maxima = [0; FIELDS].map(|_: u8| random.below(5) as u8);
     if random.one_in(8) {
-        maxima[random.below(FIELDS)] = random.of(&[254, 255]);
+        maxima[random.below(FIELDS)] = random.of(&LAST);
     }
     maxima
 }
@@ -118,7 +125,13 @@ impl Growth<'_> {
         if !self.random.one_in(self.seldom) {
             return (0, most);
         }
-        let mut end = || self.random.below(usize::from(most) + 1) as u8;
+        let mut end = || {
+            if most > LAST[0] && self.random.one_in(4) {
+                self.random.of(&LAST).min(most)
+            } else {
+                self.random.below(usize::from(most) + 1) as u8
+            }
+        };
         let (a, b) = (end(), end());
         (a.min(b), a.max(b))
     }

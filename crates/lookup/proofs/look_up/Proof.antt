@@ -3,6 +3,7 @@
 use mathlib.Core.Path.{sym, ap, _∙_}
 use mathlib.Core.List.{List, [], _∷_}
 use Prim.Native.Nat.{ℕ}
+use native.Mathlib.Omega.{arith}
 use borrow.Author.Needs.{needs}
 use lib.ListN.{length}
 use Rattle.answer.specs.Answers.{zeros}
@@ -33,7 +34,7 @@ returns : tie.Need-returns
 returns c =
     let k = c .before .before in
     let s = cleared k in
-    asked-before (diagramRefusal (slice s) ∷ []) (maximum (slice s)) (values s) (ruledBy (slice s) (values s)) (places s) (c .refused .result)
+    asked-before (diagramRefusal (slice s) ∷ []) (maximum (slice s)) (values s) 0 (omega arith) (ruledBy (slice s) (values s)) 0 (places s) (c .refused .result)
     (s .clear .last .0) (unsound (slice s) (found-unsound (slice s) (k .is-sound .result) (k .is-sound .ensures) (c .before .if1 .taken)))
     (c .refused .ensures) (s .clear .ensures)
 

@@ -1,12 +1,15 @@
 -- `lookup::look_up_sound` meets its contract, on each way out.
 -- Assumes nothing.
-use mathlib.Core.Path.{_≡_, ap, _∙_}
-use mathlib.Core.List.{List, []}
+use mathlib.Core.Path.{_≡_, refl, ap, _∙_}
+use mathlib.Core.List.{List, [], map}
 use Prim.Native.Nat.{ℕ, _+_, _-_}
 use native.Mathlib.Omega.{arith}
+use mir.Syntax.{w16}
 use borrow.Author.Needs.{needs}
-use lib.ListN.{length, take, drop}
+use borrow.Kind.Array.{eInt, good-length}
+use lib.ListN.{length, take, drop, length-map, length-take, length-drop}
 use lib.Seq.{sets}
+use Rattle.answer.specs.Fields.{fields}
 use Rattle.answer.specs.Requests.{fieldFault}
 use Rattle.answer.proofs.FirstField.{none-over-within}
 use Rattle.answer.proofs.RequestRefusals.{asked-over, asked-short, asked-ruled}
@@ -44,11 +47,17 @@ module _ (c : tie.After-descend) where
   count-there : countAt (slice asked) (c .descend .result) ≡ length (ruledBy (slice asked) (values asked) .cards)
   count-there = reached-count (slice asked) (values asked) (asked .pre .0) (c .descend .result) (c .descend .ensures)
 
+field-fault-requires : tie.Need-field-fault-requires
+field-fault-requires c κs =
+    let s = c .before .before .before .before .before in
+    let n = good-length (eInt w16) fields (map (λ v. v) (values s)) _ (s .good .1 .0 .1 .1 .0) in
+    (omega (arith, length-take fields (drop 2 (slice s)), length-drop 2 (slice s), s .pre .0 .header-there), omega (arith, n, length-map (values s) (λ v. v)))
+
 returns : tie.Need-returns
 returns c =
     let f = c .before .before in
     let s = start f in
-    asked-over [] (maximum (slice s)) (values s) (ruledBy (slice s) (values s)) (places s) (c .refused .result) (s .args .cards .now) tt
+    asked-over [] (maximum (slice s)) (values s) 0 (omega arith) (ruledBy (slice s) (values s)) 0 (places s) (c .refused .result) (s .args .cards .now) tt
     (f .field-fault .result) (fault f) (c .before .if1 .taken) (c .refused .ensures) (s .pre .1)
 
 descend-requires : tie.Need-descend-requires
@@ -61,7 +70,7 @@ returns-2 c =
     let d = c .before .before .before in
     let f = d .before .before in
     let s = start f in
-    asked-short [] (maximum (slice s)) (values s) (ruledBy (slice s) (values s)) (places s) (c .refused2 .result) (s .args .cards .now) tt
+    asked-short [] (maximum (slice s)) (values s) 0 (omega arith) (ruledBy (slice s) (values s)) 0 (places s) (c .refused2 .result) (s .args .cards .now) tt
     (f .field-fault .result) (fault f) (d .before .if1 .left) (countAt (slice s) (d .descend .result)) (count-there d)
     (omega (arith, c .before .if2 .taken)) (c .refused2 .ensures) (s .pre .1)
 
@@ -77,9 +86,9 @@ returns-3 c =
     let count = p + 3 + countAt (slice s) p - (p + 3) in
     let whole : count ≡ countAt (slice s) p = omega arith in
     let cards = reached-cards (slice s) (values s) (s .pre .0) p (d .descend .ensures) in
-    asked-ruled [] (maximum (slice s)) (values s) r (places s) (c .ruled .result) (w .store .last .1 .0) tt
-    (f .field-fault .result) (fault f) (d .before .if1 .left) (countAt (slice s) p) (count-there d) _
-    (omega (arith, e .if2 .left)) (reached-decision (slice s) (values s) (s .pre .0) p (d .descend .ensures)) (c .ruled .ensures)
+    asked-ruled [] (maximum (slice s)) (values s) 0 (omega arith) r 0 (places s) (c .ruled .result) (w .store .last .1 .0) tt
+    (f .field-fault .result) (fault f) (d .before .if1 .left) (countAt (slice s) p) (count-there d) _ 0
+    (omega (arith, e .if2 .left)) (reached-decision (slice s) (values s) (s .pre .0) p (d .descend .ensures)) refl (c .ruled .ensures)
     (stored-cleared (r .cards) (w .store .last .1 .0) (s .args .cards .now) (places s) (s .pre .1)
     (w .store .ensures ∙ ap (sets (s .args .cards .now) 0) (ap (λ k. take k (drop (p + 3) (slice s))) whole ∙ cards))
     (omega (arith, count-there d, e .if2 .left)))
@@ -88,7 +97,7 @@ pub look-up-sound-spec : {M : Type 1} → statement M
 look-up-sound-spec =
     tie.close
     (tie.spec
-    (λ c. search needs) (λ c. search needs) (λ c. search needs) (λ c. search needs) (λ c κs. search needs) (λ c κs. search needs) returns
+    (λ c. search needs) (λ c. search needs) (λ c. search needs) (λ c. search needs) (λ c. search needs) field-fault-requires (λ c κs. search needs) returns
     descend-requires (λ c. search needs) (λ c. search needs) (λ c. search needs) (λ c. search needs) (λ c κs. search needs) returns-2
     (λ c. search needs) (λ c. search needs) (λ c. search needs) (λ c. search needs) (λ c. search needs) (λ c. search needs)
     (λ c κs. search needs) (λ c. search needs) (λ c. search needs) (λ c. search needs) (λ c. search needs) (λ c κs. search needs)

@@ -7,7 +7,7 @@ use Rattle.answer.proofs.Answer.refused.Statement.{statement}
 use Rattle.answer.proofs.Answer.refused.Tie as tie
 
 returns : tie.Need-returns
-returns c = ap (λ (a : Answer). record { number = c .before .args .number; decision = a .decision; place = c .before .args .place; count = a .count }) (c .blank .ensures)
+returns c = ap (λ (a : Answer). record { number = c .before .args .number; decision = a .decision; place = c .before .args .place; count = a .count; subjects = a .subjects }) (c .blank .ensures)
 
 pub refused-spec : {M : Type 1} → statement M
 refused-spec = tie.close (tie.spec (λ c κs. search needs) returns)

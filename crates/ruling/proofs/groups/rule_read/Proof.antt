@@ -1,58 +1,148 @@
--- `ruling::groups::rule_read` meets its contract: the root is ruled with all nodes under it, or its target fails and there is nothing.
+-- `ruling::groups::rule_read` meets its contract: the root is ruled with all nodes under it for the members that are left there, or none is left and
+-- there is nothing.
 -- Assumes nothing.
-use mathlib.Core.Path.{_≡_, refl, sym, _∙_}
-use mathlib.Core.Bool.{false}
+use mathlib.Core.Path.{_≡_, refl}
+use mathlib.Core.Bool.{Bool, false}
+use mathlib.Core.List.{List}
 use Prim.Native.Nat.{ℕ, _≤_, _<_}
 use native.Mathlib.Omega.{arith}
 use borrow.Author.Needs.{needs}
-use borrow.Author.Tests.{not-true, not-false}
+use lib.ListN.{length}
+use lib.Seq.{sets}
 use Rattle.table.specs.Layout.{count}
+use Rattle.table.specs.WellFormed.{WellFormed}
 use Rattle.table.proofs.Places.{header-held}
-use Rattle.ruling.specs.Targets.{targetHolds, applies}
-use Rattle.ruling.proofs.Applies.{applies-is, applies-under}
-use Rattle.ruling.proofs.Throughout.{pass-root}
-use Rattle.ruling.proofs.Steps.{held, root, gathered-not, all-gathered}
-use Rattle.ruling.proofs.Decisions.{ruled-not}
+use Rattle.ruling.specs.Subjects.{appliesToSome}
+use Rattle.ruling.specs.Meaning.{decision, cards}
+use Rattle.ruling.specs.Walk.{AppliesToEach, Node, Gathered}
+use Rattle.ruling.proofs.MembersLeft.{members-root, members-down, left-each, left-applies, left-same, none-left}
+use Rattle.ruling.proofs.RulingGoesByWhichApply.{decided-same, gathered-same}
+use Rattle.ruling.proofs.Steps.{held, root, children, gathered-not, gathered-rule, gathered-group, all-gathered}
+use Rattle.ruling.proofs.Decisions.{ruled-not, ruled-rule, ruled-group}
 use Rattle.ruling.proofs.groups.rule_read.Statement.{statement}
 use Rattle.ruling.proofs.groups.rule_read.Tie as tie
 
-target-holds-requires : tie.Need-target-holds-requires
-target-holds-requires c κs = held (c .before .before .args .table .now) (c .before .before .pre) 0 (c .before .before .pre .some)
+-- what the call is given
+module _ (c : tie.Start) where
+  abbrev table : List ℕ
+  table = c .args .table .now
+
+  abbrev others : List ℕ
+  others = c .args .others .now
+
+  abbrev a : ℕ → Bool
+  a = appliesToSome table (c .args .subjects) others
+
+-- once the members that are left at the root are known
+module _ (c : tie.After-members-left) where
+  abbrev start : tie.Start
+  start = c .before .before .before
+
+  abbrev left : ℕ
+  left = c .members-left .result
+
+  abbrev b : ℕ → Bool
+  b = appliesToSome (table start) left (others start)
+
+  each : AppliesToEach (table start) left (others start) 0
+  each =
+      left-each (table start) (others start) (start .args .subjects) left 0 (c .members-left .ensures) (start .pre .spans 0 (start .pre .some))
+      (members-root (table start) (others start) (start .args .subjects))
+
+  alike : (j : ℕ) → 0 ≤ j → j < count (table start) → a start j ≡ b j
+  alike j lo hi =
+      left-same (table start) (others start) (start .args .subjects) left 0 (c .members-left .ensures) j lo (omega (arith, start .pre .root))
+
+members-left-requires : tie.Need-members-left-requires
+members-left-requires c κs = let s = c .before .before in held (table s) (s .pre) 0 (s .pre .some)
 
 returns : tie.Need-returns
 returns c =
-    let t = c .before .before .before .before .args .table .now in
-    let q = c .before .before .before .before .args .values .now in
-    let list = c .before .before .before .before .args .cards .now in
-    let w = c .before .before .before .before .pre in
-    let h = sym (c .before .target-holds .ensures) ∙ not-true _ (c .if1 .taken) in
-    let out : (m : ℕ) → 0 ≤ m → m < count t → applies t q m ≡ false = λ m l r. applies-under t q 0 m l (omega (arith, w .root)) h in
-    let g = all-gathered (applies t q) t (count t) 0 list list refl (gathered-not (applies t q) t w 0 (count t) 0 list out) in
-    ((ruled-not (applies t q) t 0 (out 0 (omega arith) (w .some)), g .0), g .1)
+    let m = c .before in
+    let s = start m in
+    let t = table s in
+    let w = s .pre in
+    let list = s .args .cards .now in
+    let out : (j : ℕ) → 0 ≤ j → j < count t → a s j ≡ false =
+    λ j lo hi. none-left t (others s) (s .args .subjects) (left m) 0 (m .members-left .ensures) (c .if1 .taken) j lo (omega (arith, w .root)) in
+    let g = all-gathered (a s) t (count t) 0 list list refl (gathered-not (a s) t w 0 (count t) 0 list out) in
+    ((ruled-not (a s) t 0 (out 0 (omega arith) (w .some)), g .0), g .1)
 
 count-at-requires : tie.Need-count-at-requires
-count-at-requires c κs = header-held (c .before .before .before .before .args .table .now) (c .before .before .before .before .pre .records)
+count-at-requires c κs = let s = start (c .before) in header-held (table s) (s .pre .records)
 
-rule-node-requires : tie.Need-rule-node-requires
-rule-node-requires c κs =
-    let t = c .before .before .before .before .before .before .args .table .now in
-    let q = c .before .before .before .before .before .before .args .values .now in
-    let w = c .before .before .before .before .before .before .pre in
-    let h = applies-is t q 0 (pass-root t (targetHolds t q)) (w .spans 0 (w .some)) in
-    (w, root (applies t q) t w (c .before .count-at .result) (c .before .count-at .ensures .0) (h ∙ sym (c .before .before .before .target-holds .ensures) ∙ not-false _ (c .before .before .if1 .left)))
+kind-at-requires : tie.Need-kind-at-requires
+kind-at-requires c κs = let s = start (c .before .before) in held (table s) (s .pre) 0 (s .pre .some)
+
+-- once the root's kind is known
+module _ (c : tie.After-kind-at) where
+  abbrev known : tie.After-members-left
+  known = c .before .before .before
+
+  abbrev t : List ℕ
+  t = table (start known)
+
+  abbrev w : WellFormed t
+  w = start known .pre
+
+  abbrev end : ℕ
+  end = c .before .count-at .result
+
+  node : Node (b known) t 0 end 0
+  node =
+      root (b known) t w end (c .before .count-at .ensures .0)
+      (left-applies t (others (start known)) (start known .args .subjects) (left known) 0 (known .members-left .ensures) (omega arith)
+      (omega (arith, c .before .before .if1 .left)) (each known))
+
+  -- what the root gives and gathers for those that are left is what it does for the whole set
+  whole : (d n : ℕ) (after : List ℕ) → d ≡ decision (b known) t 0 → Gathered (b known) t 0 end 0 n (start known .args .cards .now) after →
+      ((d ≡ decision (a (start known)) t 0) × (n ≡ length (cards (a (start known)) t)))
+      × (after ≡ sets (start known .args .cards .now) 0 (cards (a (start known)) t))
+  whole d n after e g =
+      let inside : count t ≤ count t = omega arith in
+      let decided = decided-same (a (start known)) (b known) t w inside (alike known) 0 d (omega arith) (w .some) (omega (arith, w .root)) e in
+      let gathered = gathered-same (a (start known)) (b known) t w inside (alike known) (omega arith) (omega arith) (omega (arith, c .before .count-at .ensures .0)) g in
+      let all = all-gathered (a (start known)) t end n (start known .args .cards .now) after (c .before .count-at .ensures .0) gathered in
+      ((decided, all .0), all .1)
+
+rule-run-requires : tie.Need-rule-run-requires
+rule-run-requires c κs =
+    let k = c .before .before in
+    let s = start (known k) in (
+      w k,
+      (
+        (children (b (known k)) (t k) (w k) 0 (end k) 0 (node k), omega (arith, c .before .if2 .taken)),
+        members-down (t k) (others s) (left (known k)) 0 (each (known k)),
+      ),
+    )
 
 returns-2 : tie.Need-returns-2
 returns-2 c =
-    let t = c .before .before .before .before .before .before .before .before .before .args .table .now in
-    let q = c .before .before .before .before .before .before .before .before .before .args .values .now in
-    let list = c .before .before .before .before .before .before .before .before .before .args .cards .now in
-    let n = c .before .before .rule-node in
-    let k = c .before .before .before .before .count-at in
-    let g = all-gathered (applies t q) t (k .result) (n .result .count) list (n .last .1 .1 .1 .1 .0) (k .ensures .0) (n .ensures .1) in
-    ((n .ensures .0, g .0), g .1)
+    let x = c .before .before .rule-run in
+    let g = c .before .before .before .before in
+    let k = g .before in
+    let few : k .kind-at .result < 4 = omega (arith, g .if2 .taken) in
+    whole k (x .result .decision) (x .result .count) (x .last .1 .1 .1 .1 .1 .1 .0)
+    (ruled-group (b (known k)) (t k) 0 (end k) (k .kind-at .result) (x .result .decision) (node k .applies) (k .kind-at .ensures) few (node k .ends) (x .ensures .0))
+    (gathered-group (b (known k)) (t k) (w k) 0 (end k) 0 (x .result .count) (start (known k) .args .cards .now) (x .last .1 .1 .1 .1 .1 .1 .0) (node k)
+    (omega (arith, k .kind-at .ensures)) (x .ensures .1))
+
+rule-match-requires : tie.Need-rule-match-requires
+rule-match-requires c κs = let k = c .before .before in (held (t k) (w k) 0 (w k .some), omega arith)
+
+returns-3 : tie.Need-returns-3
+returns-3 c =
+    let x = c .before .before .rule-match in
+    let g = c .before .before .before .before in
+    let k = g .before in
+    whole k (x .result .decision) (x .result .count) (x .last .1 .1 .1 .0)
+    (ruled-rule (b (known k)) (t k) 0 (k .kind-at .result) (x .result .decision) (node k .applies) (k .kind-at .ensures) (g .if2 .left) (x .ensures .0 .0))
+    (gathered-rule (b (known k)) (t k) (w k) 0 (end k) 0 (x .result .count) (start (known k) .args .cards .now) (x .last .1 .1 .1 .0) (node k)
+    (omega (arith, k .kind-at .ensures, g .if2 .left)) (x .ensures .0 .1) (x .ensures .1))
 
 pub rule-read-spec : {M : Type 1} → statement M
 rule-read-spec =
     tie.close
     (tie.spec
-    target-holds-requires returns count-at-requires rule-node-requires (λ c. search needs) returns-2)
+    members-left-requires returns count-at-requires kind-at-requires rule-run-requires rule-match-requires (λ c. search needs) returns-2
+    (λ c. search needs) returns-3)

@@ -5,9 +5,10 @@ use mathlib.Core.Path.{_≡_, refl, sym, ap, _∙_}
 use Prim.Native.Nat.{ℕ, _-_, _≤_}
 use native.Mathlib.Omega.{arith}
 use borrow.Author.Needs.{needs}
+use Rattle.answer.specs.Below.{someBelow}
 use Rattle.answer.specs.Fields.{fields}
-use Rattle.table.specs.Reading.{someBelow, rangeFault, rangesFault}
-use Rattle.table.proofs.Tests.{some-true, some-more}
+use Rattle.answer.proofs.Below.{some-where, some-none, some-more}
+use Rattle.table.specs.Reading.{rangeFault, rangesFault}
 use Rattle.table.proofs.reading.ranges_fault.Statement.{statement}
 use Rattle.table.proofs.reading.ranges_fault.Tie as tie
 
@@ -18,13 +19,13 @@ abbrev μ-loop : tie.MeasureT-loop
 μ-loop table i field₀ field = fields - field
 
 loop-holds : tie.Need-loop-holds Inv-loop μ-loop
-loop-holds c = (omega arith, refl)
+loop-holds c = (omega arith, some-none (rangeFault (c .before .args .table .now) (c .before .args .i)) 0 (λ f l. absurd (omega arith)))
 
 returns : tie.Need-returns Inv-loop μ-loop
 unfolding rangesFault
 returns c =
     let s = c .before .before .before .before .before .args in
-    sym (some-true (rangeFault (s .table .now) (s .i)) fields (c .before .before .before .loop .field) (c .before .before .loop-test .taken) (sym (c .before .range-fault .ensures) ∙ c .if1 .taken))
+    sym (some-where (rangeFault (s .table .now) (s .i)) fields (c .before .before .before .loop .field) (c .before .before .loop-test .taken) (sym (c .before .range-fault .ensures) ∙ c .if1 .taken))
 
 loop-again : tie.Need-loop-again Inv-loop μ-loop
 loop-again c =

@@ -1,0 +1,114 @@
+//! Sets of subjects beside their members, and runs of subjects beside a table without subjects.
+
+use std::collections::BTreeSet;
+
+use crate::compare::Compare;
+use crate::evaluator::{every_request, Joint, Table, FIELDS, MOST_SUBJECTS};
+use crate::generator::{accepted_table, lists, some_joint_requests, Outline, Random};
+use crate::pairs::builds;
+
+/// A table whose subjects often end about where those of a set do. A card tells its rule from all others, and cards rise
+/// in table order.
+fn some_table(random: &mut Random) -> Outline {
+    let mut maxima = [0; FIELDS].map(|_: u8| random.below(5) as u8);
+    if !random.one_in(4) {
+        maxima[0] = random.of(&[62, 63, 64, 255]);
+    }
+    let mut table = accepted_table(random, maxima);
+    let rules = table.nodes.iter_mut().filter(|node| !node.is_group());
+    for (card, rule) in (1..).zip(rules) {
+        rule.card = card;
+    }
+    table
+}
+
+/// A set of one subject is ruled as that subject, and as the built diagram rules; a rule matches for a set exactly where
+/// it matches for one of its members by itself.
+#[test]
+fn members_by_themselves() {
+    let mut compare = Compare::new("sets beside their members");
+    for seed in 0..1_000 {
+        compare.case("seed", seed);
+        let mut random = Random::new(seed);
+        let outline = some_table(&mut random);
+        let bytes = outline.bytes();
+        let Some((table, diagram)) = builds(&mut compare, &bytes) else {
+            continue;
+        };
+        let any = |most: u16| random.below(usize::from(most) + 1) as u16;
+        let [_, others @ ..] = table.maxima.map(any);
+        let mut cards = Vec::new();
+        for subject in 0..=table.maxima[0] {
+            let values = Joint::new([], others).asked_by(subject);
+            let ruled = table.rule_one(values);
+            compare.looks_up_with(&diagram, values, &ruled, [127]);
+            if let Some(joint) = Joint::only(values) {
+                compare.same("the ruling on a set of one", &table.rule(&joint), &ruled);
+                compare.rules_with(&bytes, &joint, &ruled, [127]);
+            }
+            cards.push(ruled.expect("values within the maxima").cards);
+        }
+        for joint in some_joint_requests(&mut random, outline.maxima, &[], 16) {
+            let joint = Joint { others, ..joint };
+            let ruled = table.rule(&joint);
+            compare.rules_with(&bytes, &joint, &ruled, [127]);
+            let Ok(ruled) = ruled else { continue };
+            let members = joint.members.iter().map(|&member| usize::from(member));
+            let each: BTreeSet<u16> = members.flat_map(|member| cards[member].clone()).collect();
+            compare.same("the cards of a set", ruled.cards, Vec::from_iter(each));
+        }
+    }
+    compare.every_decision(1_000);
+    compare.every_set(40);
+    compare.end(18_000_000, [0, 13], 500);
+}
+
+/// The table with one subject alone: a node applies to it exactly where it can apply to a subject of a run. A node for
+/// which the ranges on its way leave none of the run goes, with all under it; for a root an empty group stays.
+fn without_subjects(table: &Outline, run: (u8, u8)) -> Outline {
+    let mut outline = Outline::new(table.maxima);
+    outline.maxima[0] = 0;
+    // what each level above a node leaves of the run
+    let mut left = vec![run];
+    for node in &table.nodes {
+        left.truncate(node.level);
+        let ((first, last), (low, high)) = (left[left.len() - 1], node.ranges[0]);
+        left.push((first.max(low), last.min(high)));
+        if left.iter().all(|(first, last)| first <= last) {
+            let mut ranges = node.ranges;
+            ranges[0] = (0, 0);
+            outline.add(node.level, node.kind, node.card, ranges);
+        }
+    }
+    if outline.nodes.is_empty() {
+        outline.add(1, 0, 0, outline.all());
+    }
+    outline
+}
+
+/// A run of subjects, the run of all among them, is ruled as the one subject of the table without subjects.
+#[test]
+fn runs_of_subjects() {
+    let mut compare = Compare::new("runs of subjects");
+    for seed in 0..3_000 {
+        compare.case("seed", seed);
+        let mut random = Random::new(seed);
+        let outline = some_table(&mut random);
+        let bytes = outline.bytes();
+        let last = outline.maxima[0].min(MOST_SUBJECTS as u8 - 1);
+        let some = random.below(usize::from(last) + 1) as u8;
+        for run in [(0, last), (0, some), (some, last)] {
+            let without = without_subjects(&outline, run).bytes();
+            let without = Table::read(&without).expect("a table that is accepted");
+            for values in every_request(without.maxima) {
+                let [_, others @ ..] = values;
+                let joint = Joint::new((run.0..=run.1).map(u16::from), others);
+                let ruled = without.rule_one(values);
+                compare.rules_with(&bytes, &joint, &ruled, [random.of(&lists(&ruled))]);
+            }
+        }
+    }
+    compare.every_decision(1_000);
+    compare.every_set(10);
+    compare.end(5_000_000, [0, 10], 5_000);
+}
