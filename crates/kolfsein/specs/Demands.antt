@@ -88,8 +88,8 @@ pub record Demands : Type 0 where
   pub question-ruled : (t : List ℕ) (s : ℕ) (others : List ℕ) (n : ℕ) → Accepted t → AskedWithin (maximum t) s others →
       LongEnough (groupsTogether t s others) n →
       Rules (ruling t s others n) (ruledList t s others n) (groupsTogether t s others) (size s) n
-  -- no refusal applies to a set, and one value for each other field, exactly where the table is accepted, what each member asks is within its
-  -- fields, and the list is long enough
+  -- "Every accepted question": no refusal applies to a set, and one value for each other field, exactly where the table is accepted, the set has
+  -- a member, what each member asks is within the table's fields, and the list is long enough
   pub question-accepted : (t : List ℕ) (s : ℕ) (others : List ℕ) (n : ℕ) → length others ≡ fields - 1 →
       None (rulingRefusals t s others n) ↔ (Accepted t × (AskedWithin (maximum t) s others × LongEnough (groupsTogether t s others) n))
   -- paper 1, "A node holds for the party exactly when at least one member by itself meets its target and every target above it": the node's

@@ -9,6 +9,7 @@ pub mod MembersLeft
 pub mod Cards
 pub mod Decisions
 pub mod Steps
+pub mod NodeByKind
 pub mod ChildByChild
 pub mod Members
 pub mod AppliesByParents

@@ -43,11 +43,6 @@ module _ (a b : ℕ → Bool) (t : List ℕ) (w : WellFormed t) where
         ap (gives a t i) (children-same (endOf t i - (i + 1)) (i + 1) (endOf t i) (omega arith) end (whole-under t w i (omega arith)))
         ∙ gives-same i (children b t (under t i)) lo hi
 
-    -- what was decided and gathered by one of the two tests
-
-    pub decided-same : (i d : ℕ) → from ≤ i → i < to → endOf t i ≤ to → d ≡ decision b t i → d ≡ decision a t i
-    decided-same i d lo hi end e = e ∙ sym (decision-same i lo hi end)
-
     cards-same : (n i : ℕ) → from ≤ i → i + n ≤ to → cardsFrom a t i n ≡ cardsFrom b t i n
     unfolding cardsFrom
     cards-same zero i lo hi = refl
@@ -56,7 +51,7 @@ module _ (a b : ℕ → Bool) (t : List ℕ) (w : WellFormed t) where
         ap (λ x. cond (isRule t i && x) (card t i ∷ cardsFrom a t (i + 1) n) (cardsFrom a t (i + 1) n)) (same i lo (omega arith))
         ∙ ap (λ cs. cond (isRule t i && b i) (card t i ∷ cs) cs) rest
 
-    pub gathered-same : {i end k n : ℕ} {before after : List ℕ} → from ≤ i → i ≤ end → end ≤ to →
+    gathered-same : {i end k n : ℕ} {before after : List ℕ} → from ≤ i → i ≤ end → end ≤ to →
         Gathered b t i end k n before after → Gathered a t i end k n before after
     gathered-same {i} {end} {k} {n} {before} {after} lo order hi g =
         let e = cards-same (end - i) i lo (omega arith) in
@@ -64,6 +59,12 @@ module _ (a b : ℕ → Bool) (t : List ℕ) (w : WellFormed t) where
           number = omega (arith, g .number, ap length e);
           list = g .list ∙ ap (sets before k) (sym e);
         }
+
+    -- what was decided and gathered at a node by one of the two tests
+    pub ruled-same : {i end d k n : ℕ} {before after : List ℕ} → from ≤ i → i < end → end ≡ endOf t i → end ≤ to →
+        (d ≡ decision b t i) × Gathered b t i end k n before after → (d ≡ decision a t i) × Gathered a t i end k n before after
+    ruled-same {i} lo order ends hi r =
+        (r .0 ∙ sym (decision-same i lo (omega arith) (omega arith)), gathered-same lo (omega arith) hi (r .1))
 
   pub meaning-same : ((i : ℕ) → i < count t → a i ≡ b i) → meaning a t ≡ meaning b t
   meaning-same same =

@@ -108,8 +108,8 @@ module _ (maximum s : ℕ) where
     by-members b e = sym (ap (λ x. not x || someMember s (λ k. ltb maximum k)) (some-in s l p) ∙ e)
 
     -- the next member after the maximum
-    pub next-decides : (r : ℕ) → Next 64 (bit s) (maximum + 1) r → ltb r 64 ≡ subjectsFault maximum s
-    next-decides r n =
+    pub next-decides : (i r : ℕ) → i ≡ maximum + 1 → Next 64 (bit s) i r → ltb r 64 ≡ subjectsFault maximum s
+    next-decides i r e n =
         ⊎-elim
         (λ (m : r < 64).
         lt-ltb r 64 m

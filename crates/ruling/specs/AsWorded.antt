@@ -1,4 +1,5 @@
--- The decision of a node as document 01 words it: a group goes by its own target alone, and only rules by the targets above them too.
+-- The decision of a node, for a question of one figure, as document 01 words it: a group goes by its own target alone, and only rules by the targets
+-- above them too.
 -- Assumes nothing: these are definitions.
 use mathlib.Core.Bool.{cond}
 use mathlib.Core.List.{List, [], _∷_}

@@ -132,16 +132,6 @@ impl Set {
         }
     }
 
-    // The numbers of either set.
-    pub fn join(self, other: Set) -> Self
-        ensures { λ r. ⌜ Has r (λ i. has self i || has other i) ⌝ }
-    {
-        Self {
-            low: self.low | other.low,
-            high: self.high | other.high,
-        }
-    }
-
     // Whether the two sets are the same.
     pub fn same(self, other: Set) -> bool
         ensures { λ r. ⌜ r ≡ same self other ⌝ }

@@ -14,10 +14,11 @@ use Rattle.table.specs.Tree.{endOf}
 use Rattle.table.specs.WellFormed.{WellFormed}
 use Rattle.ruling.specs.Subjects.{appliesToSome}
 use Rattle.ruling.specs.Walk.{MembersPass, AppliesToEach, Node}
-use Rattle.ruling.proofs.Steps.{held, gathered-length, children, first, gathered-rule, gathered-group}
+use Rattle.ruling.proofs.Steps.{held, gathered-length, children, first}
+use Rattle.ruling.proofs.NodeByKind.{by-rule, by-group}
 use Rattle.ruling.proofs.MembersLeft.{members-down, members-after, left-each, left-applies, left-same, none-left}
-use Rattle.ruling.proofs.RulingGoesByWhichApply.{decided-same, gathered-same}
-use Rattle.ruling.proofs.Decisions.{takes, ruled-rule, ruled-group}
+use Rattle.ruling.proofs.RulingGoesByWhichApply.{ruled-same}
+use Rattle.ruling.proofs.Decisions.{takes}
 use Rattle.ruling.proofs.ChildByChild.{Before, before-first, before-end, before-some, before-within, before-child, before-next, before-skipped}
 use Rattle.combining.proofs.Running.start.Reads as start-reads
 use Rattle.combining.proofs.Running.take.Reads as take-reads
@@ -133,14 +134,9 @@ rule-node-returns : (t : ℕ) → rule-node-lts.Need-returns (rule-node-claims t
 rule-node-returns t c =
     let x = c .before .before .rule-run in
     let g = c .before .before .before .before in
-    let k = g .before .kind-at in
     let s = g .before .before .before .before in
-    let n = node-given s in (
-      ruled-group (node-applies s) (node-table s) (s .args .i) (s .args .end) (k .result) (x .result .decision) (n .applies) (k .ensures)
-          (omega (arith, g .if1 .taken)) (n .ends) (x .ensures .0),
-      gathered-group (node-applies s) (node-table s) (node-well-formed s) (s .args .i) (s .args .end) (s .args .count) (x .result .count)
-          (s .args .cards .now) (x .last .1 .1 .1 .1 .1 .1 .0) n (omega (arith, k .ensures, g .if1 .taken)) (x .ensures .1),
-    )
+    by-group (node-applies s) (node-table s) (node-well-formed s) (node-given s) (g .before .kind-at .ensures) (omega (arith, g .if1 .taken))
+    (x .ensures .0) (x .ensures .1)
 
 rule-node-same-length-2 : (t : ℕ) → rule-node-lts.Need-same-length-2 (rule-node-claims t) (rule-node-at t) rule-node.Post
 rule-node-same-length-2 t c = search needs
@@ -149,13 +145,9 @@ rule-node-returns-2 : (t : ℕ) → rule-node-lts.Need-returns-2 (rule-node-clai
 rule-node-returns-2 t c =
     let x = c .before .before .rule-match in
     let r = c .before .before .before .before in
-    let k = r .before .kind-at in
     let s = r .before .before .before .before in
-    let n = node-given s in (
-      ruled-rule (node-applies s) (node-table s) (s .args .i) (k .result) (x .result .decision) (n .applies) (k .ensures) (r .if1 .left) (x .ensures .0 .0),
-      gathered-rule (node-applies s) (node-table s) (node-well-formed s) (s .args .i) (s .args .end) (s .args .count) (x .result .count)
-          (s .args .cards .now) (x .last .1 .1 .1 .0) n (omega (arith, k .ensures, r .if1 .left)) (x .ensures .0 .1) (x .ensures .1),
-    )
+    by-rule (node-applies s) (node-table s) (node-well-formed s) (node-given s) (r .before .kind-at .ensures) (r .if1 .left)
+    (x .ensures .0 .0) (x .ensures .0 .1) (x .ensures .1)
 
 abbrev rule-run-Inv-loop : rule-run-lts.InvT-loop
 rule-run-Inv-loop table members others kind first end cards₀ before running₀ count₀ i₀ cards running count i =
@@ -306,14 +298,10 @@ rule-run-loop-again t c =
     let l = run-loop m in
     let s = start-left m in
     let w = run-well-formed s in
-    let decided = decided-same (run-applies s) (left-applies-to m) (run-table s) w (within-table m) (alike m) in
-    let gathered = gathered-same (run-applies s) (left-applies-to m) (run-table s) w (within-table m) (alike m) in (
-      before-next w (l .before .loop .inv .0) (l .loop-test .taken) (spanned m)
-          (decided (child l) (x .rule-node .result .decision) (omega arith) (omega (arith, child-spans l)) (omega arith) (x .rule-node .ensures .0))
-          (c .take .ensures)
-          (gathered (omega arith) (omega arith) (omega (arith, spanned m)) (x .rule-node .ensures .1)),
-      passed-on m,
-    )
+    let r =
+    ruled-same (run-applies s) (left-applies-to m) (run-table s) w (within-table m) (alike m) (omega arith) (omega (arith, child-spans l, spanned m))
+    (omega (arith, spanned m)) (omega (arith, spanned m)) (x .rule-node .ensures) in
+    (before-next w (l .before .loop .inv .0) (l .loop-test .taken) (spanned m) (r .0) (c .take .ensures) (r .1), passed-on m)
 
 rule-run-loop-less-2 : (t : ℕ) → rule-run-lts.Need-loop-less-2 (rule-run-claims t) (rule-run-at t) rule-run.Post rule-run-Inv-loop rule-run-μ-loop
 rule-run-loop-less-2 t c =

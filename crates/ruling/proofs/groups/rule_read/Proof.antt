@@ -16,9 +16,10 @@ use Rattle.ruling.specs.Subjects.{appliesToSome}
 use Rattle.ruling.specs.Meaning.{decision, cards}
 use Rattle.ruling.specs.Walk.{AppliesToEach, Node, Gathered}
 use Rattle.ruling.proofs.MembersLeft.{members-root, members-down, left-each, left-applies, left-same, none-left}
-use Rattle.ruling.proofs.RulingGoesByWhichApply.{decided-same, gathered-same}
-use Rattle.ruling.proofs.Steps.{held, root, children, gathered-not, gathered-rule, gathered-group, all-gathered}
-use Rattle.ruling.proofs.Decisions.{ruled-not, ruled-rule, ruled-group}
+use Rattle.ruling.proofs.RulingGoesByWhichApply.{ruled-same}
+use Rattle.ruling.proofs.Steps.{held, root, children, gathered-not, all-gathered}
+use Rattle.ruling.proofs.NodeByKind.{by-rule, by-group}
+use Rattle.ruling.proofs.Decisions.{ruled-not}
 use Rattle.ruling.proofs.groups.rule_read.Statement.{statement}
 use Rattle.ruling.proofs.groups.rule_read.Tie as tie
 
@@ -95,15 +96,17 @@ module _ (c : tie.After-kind-at) where
       (omega (arith, c .before .before .if1 .left)) (each known))
 
   -- what the root gives and gathers for those that are left is what it does for the whole set
-  whole : (d n : ℕ) (after : List ℕ) → d ≡ decision (b known) t 0 → Gathered (b known) t 0 end 0 n (start known .args .cards .now) after →
+  whole : {d n : ℕ} {after : List ℕ} → (d ≡ decision (b known) t 0) × Gathered (b known) t 0 end 0 n (start known .args .cards .now) after →
       ((d ≡ decision (a (start known)) t 0) × (n ≡ length (cards (a (start known)) t)))
       × (after ≡ sets (start known .args .cards .now) 0 (cards (a (start known)) t))
-  whole d n after e g =
+  whole {d} {n} {after} g =
+      let counted = c .before .count-at .ensures .0 in
       let inside : count t ≤ count t = omega arith in
-      let decided = decided-same (a (start known)) (b known) t w inside (alike known) 0 d (omega arith) (w .some) (omega (arith, w .root)) e in
-      let gathered = gathered-same (a (start known)) (b known) t w inside (alike known) (omega arith) (omega arith) (omega (arith, c .before .count-at .ensures .0)) g in
-      let all = all-gathered (a (start known)) t end n (start known .args .cards .now) after (c .before .count-at .ensures .0) gathered in
-      ((decided, all .0), all .1)
+      let r =
+      ruled-same (a (start known)) (b known) t w inside (alike known) (omega arith) (omega (arith, counted, w .some)) (omega (arith, counted, w .root))
+      (omega (arith, counted)) g in
+      let all = all-gathered (a (start known)) t end n (start known .args .cards .now) after counted (r .1) in
+      ((r .0, all .0), all .1)
 
 rule-run-requires : tie.Need-rule-run-requires
 rule-run-requires c κs =
@@ -121,11 +124,8 @@ returns-2 c =
     let x = c .before .before .rule-run in
     let g = c .before .before .before .before in
     let k = g .before in
-    let few : k .kind-at .result < 4 = omega (arith, g .if2 .taken) in
-    whole k (x .result .decision) (x .result .count) (x .last .1 .1 .1 .1 .1 .1 .0)
-    (ruled-group (b (known k)) (t k) 0 (end k) (k .kind-at .result) (x .result .decision) (node k .applies) (k .kind-at .ensures) few (node k .ends) (x .ensures .0))
-    (gathered-group (b (known k)) (t k) (w k) 0 (end k) 0 (x .result .count) (start (known k) .args .cards .now) (x .last .1 .1 .1 .1 .1 .1 .0) (node k)
-    (omega (arith, k .kind-at .ensures)) (x .ensures .1))
+    whole k
+    (by-group (b (known k)) (t k) (w k) (node k) (k .kind-at .ensures) (omega (arith, g .if2 .taken)) (x .ensures .0) (x .ensures .1))
 
 rule-match-requires : tie.Need-rule-match-requires
 rule-match-requires c κs = let k = c .before .before in (held (t k) (w k) 0 (w k .some), omega arith)
@@ -135,10 +135,8 @@ returns-3 c =
     let x = c .before .before .rule-match in
     let g = c .before .before .before .before in
     let k = g .before in
-    whole k (x .result .decision) (x .result .count) (x .last .1 .1 .1 .0)
-    (ruled-rule (b (known k)) (t k) 0 (k .kind-at .result) (x .result .decision) (node k .applies) (k .kind-at .ensures) (g .if2 .left) (x .ensures .0 .0))
-    (gathered-rule (b (known k)) (t k) (w k) 0 (end k) 0 (x .result .count) (start (known k) .args .cards .now) (x .last .1 .1 .1 .0) (node k)
-    (omega (arith, k .kind-at .ensures, g .if2 .left)) (x .ensures .0 .1) (x .ensures .1))
+    whole k
+    (by-rule (b (known k)) (t k) (w k) (node k) (k .kind-at .ensures) (g .if2 .left) (x .ensures .0 .0) (x .ensures .0 .1) (x .ensures .1))
 
 pub rule-read-spec : {M : Type 1} → statement M
 rule-read-spec =

@@ -13,7 +13,7 @@ returns-2 : tie.Need-returns-2
 returns-2 c =
     let e = c .before .before in
     let s = e .before in
-    next-decides (s .args .maximum) (s .args .subjects) (omega arith) (omega (arith, e .if1 .left)) (c .next-at .result) (c .next-at .ensures)
+    next-decides (s .args .maximum) (s .args .subjects) (omega arith) (omega (arith, e .if1 .left)) _ (c .next-at .result) (omega arith) (c .next-at .ensures)
 
 returns-3 : tie.Need-returns-3
 returns-3 c =
