@@ -6,7 +6,8 @@
 // - By rules: two BDDs for the decision, permit and deny (indeterminate is both, not applicable neither), combined
 //   upward by the groups' ways, and one for each rule, which says where it matches. A ruling asks every one of them.
 // - By terminals: the distinct rulings are numbered, and there is one BDD for each bit of the number. To number them,
-//   the requests are split by one rule after another into those that it matches and those that it does not.
+//   the requests are split by one rule after another into those that it matches and those that it does not, and in the
+//   end by the decision, which does not follow from the rules that match.
 // The size of each is the number of nodes that its BDDs have together, shared ones once; in bytes, with the cards of
 // the rules or the rulings by number, at two bytes for each card, decision and number of cards.
 #pragma once
@@ -49,9 +50,14 @@ public:
 struct Decision {
     bdd permit = bddfalse;
     bdd deny = bddfalse;
+};
 
-    // Takes in one more child of a group.
-    void take(uint8_t kind, const Decision &child) {
+// A group's decision so far, and for only one applicable where a child has counted.
+struct Running : Decision {
+    bdd counted = bddfalse;
+
+    // Takes in one more child, which counts where it applies.
+    void take(uint8_t kind, const Decision &child, const bdd &counts) {
         const bdd permits = permit | child.permit;
         const bdd denies = deny | child.deny;
         switch (kind) {
@@ -62,9 +68,10 @@ struct Decision {
             break;
         }
         case 1: {  // only one applicable
-            const bdd two = (permit | deny) & (child.permit | child.deny);
+            const bdd two = counted & counts;
             permit = permits | two;
             deny = denies | two;
+            counted |= counts;
             break;
         }
         case 2: {  // permit overrides
@@ -102,7 +109,7 @@ public:
 
     ByRules build() {
         ByRules all;
-        all.decision = node(0, bddtrue, all.matches);
+        all.decision = decide(0, applying(0, bddtrue), all.matches);
         return all;
     }
 
@@ -119,22 +126,31 @@ private:
         return at_least & at_most;
     }
 
-    Decision node(size_t i, const bdd &above, std::vector<bdd> &matches) const {
+    // The requests to which a node applies, of those to which its parent does.
+    bdd applying(size_t i, const bdd &above) const {
         const plain::Node &node = table_.nodes[i];
         bdd applies = above;
         for (size_t field = 0; field < plain::FIELDS; ++field) {
             applies &= in_range(field, node.low[field], node.high[field]);
         }
-        Decision decision;
+        return applies;
+    }
+
+    // What a node gives, which applies to some requests.
+    Decision decide(size_t i, const bdd &applies, std::vector<bdd> &matches) const {
+        const plain::Node &node = table_.nodes[i];
         if (node.is_rule()) {
             matches.push_back(applies);
+            Decision decision;
             (node.kind == 4 ? decision.permit : decision.deny) = applies;
             return decision;
         }
+        Running running;
         for (size_t child = i + 1; child < node.end; child = table_.nodes[child].end) {
-            decision.take(node.kind, this->node(child, applies, matches));
+            const bdd counts = applying(child, applies);
+            running.take(node.kind, decide(child, counts, matches), counts);
         }
-        return decision;
+        return running;
     }
 
     const plain::Parsed &table_;
@@ -161,12 +177,14 @@ struct ByTerminals {
 
 class TerminalsBuilder {
 public:
-    TerminalsBuilder(const plain::Parsed &table, const ByRules &rules) : rules_(rules) {
+    TerminalsBuilder(const plain::Parsed &table, const ByRules &rules) : tests_(rules.matches) {
         for (size_t i = 0; i < table.count; ++i) {
             if (table.nodes[i].is_rule()) {
                 cards_.push_back(table.nodes[i].card);
             }
         }
+        tests_.push_back(rules.decision.permit);
+        tests_.push_back(rules.decision.deny);
     }
 
     ByTerminals build() {
@@ -176,22 +194,23 @@ public:
     }
 
 private:
-    // The bits of the terminals' numbers within some requests, which the rules before one treat alike.
-    std::vector<bdd> split(size_t rule, const bdd &requests, std::vector<Ruling> &rulings) {
-        const size_t before = matched_.size();
-        for (; rule < cards_.size(); ++rule) {
-            const bdd matching = requests & rules_.matches[rule];
-            if (matching == bddfalse) {
+    // The bits of the terminals' numbers within some requests, which the tests before one do not tell apart.
+    std::vector<bdd> split(size_t test, const bdd &requests, std::vector<Ruling> &rulings) {
+        const uint8_t decision = ruling_.first;
+        const size_t matched = ruling_.second.size();
+        for (; test < tests_.size(); ++test) {
+            const bdd passing = requests & tests_[test];
+            if (passing == bddfalse) {
                 continue;
             }
-            if (matching == requests) {
-                matched_.push_back(cards_[rule]);
+            if (passing == requests) {
+                pass(test);
                 continue;
             }
-            std::vector<bdd> bits = split(rule + 1, requests - matching, rulings);
-            matched_.push_back(cards_[rule]);
-            const std::vector<bdd> others = split(rule + 1, matching, rulings);
-            matched_.resize(before);
+            std::vector<bdd> bits = split(test + 1, requests - passing, rulings);
+            pass(test);
+            const std::vector<bdd> others = split(test + 1, passing, rulings);
+            back_to(decision, matched);
             bits.resize(std::max(bits.size(), others.size()), bddfalse);
             for (size_t bit = 0; bit < others.size(); ++bit) {
                 bits[bit] |= others[bit];
@@ -199,28 +218,39 @@ private:
             return bits;
         }
         std::vector<bdd> bits;
-        for (size_t number = number_of(requests, rulings); number != 0; number /= 2) {
+        for (size_t number = number_of(ruling_, rulings); number != 0; number /= 2) {
             bits.push_back(number % 2 != 0 ? requests : bddfalse);
         }
-        matched_.resize(before);
+        back_to(decision, matched);
         return bits;
     }
 
-    // The number of the ruling that these requests share: with the same rules matching, the decision is the same.
-    size_t number_of(const bdd &requests, std::vector<Ruling> &rulings) {
-        const bool permit = (requests & rules_.decision.permit) != bddfalse;
-        const bool deny = (requests & rules_.decision.deny) != bddfalse;
-        Ruling ruling(static_cast<uint8_t>((permit ? 1 : 0) + (deny ? 2 : 0)), matched_);
-        const auto found = numbers_.emplace(std::move(ruling), rulings.size());
+    // The ruling so far with what a test says where it passes: a card, or one of the two parts of the decision.
+    void pass(size_t test) {
+        if (test < cards_.size()) {
+            ruling_.second.push_back(cards_[test]);
+        } else {
+            ruling_.first = static_cast<uint8_t>(ruling_.first + (test == cards_.size() ? 1 : 2));
+        }
+    }
+
+    // The ruling so far as it was, with this decision and so many cards.
+    void back_to(uint8_t decision, size_t matched) {
+        ruling_.first = decision;
+        ruling_.second.resize(matched);
+    }
+
+    size_t number_of(const Ruling &ruling, std::vector<Ruling> &rulings) {
+        const auto found = numbers_.emplace(ruling, rulings.size());
         if (found.second) {
-            rulings.push_back(found.first->first);
+            rulings.push_back(ruling);
         }
         return found.first->second;
     }
 
-    const ByRules &rules_;
-    std::vector<uint16_t> cards_;    // of each rule, in table order
-    std::vector<uint16_t> matched_;  // the cards of the rules so far that match
+    std::vector<bdd> tests_;       // where each rule matches, then where the decision has permit, and where deny
+    std::vector<uint16_t> cards_;  // of each rule, in table order
+    Ruling ruling_;                // of the tests so far
     std::map<Ruling, size_t> numbers_;
 };
 

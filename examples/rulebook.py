@@ -38,7 +38,8 @@ forest cave ruins
 DEEDS = """
 talk trade rest heal
 search arrest
-smuggle steal attack burn
+attack
+smuggle steal burn
 """.split()
 
 FIELDS = (CHARACTERS, PLACES, DEEDS)
@@ -103,7 +104,7 @@ DAILY_LIFE = permit_overrides([
 HARBOUR_LAW = deny_overrides([
     permit(201, character="scout..carpenter", deed="talk..rest"),
     permit(202, character="merchant", deed="trade"),
-    deny(203, place="customs", deed="smuggle..burn"),
+    deny(203, place="customs", deed="attack..burn"),
     first_applicable([
         permit(211, character="carpenter"),
         permit(212, character="captain..pilot", deed="talk..search"),
@@ -122,7 +123,8 @@ HARBOUR_LAW = deny_overrides([
     deny(241, character="smuggler..thief", deed="trade"),
 ], place="quay..customs")
 
-# Cards 300 to 399: the watch.
+# Cards 300 to 399: the watch. Of the cards and groups on searching only one may apply. The group of the prison and the
+# barracks applies to everyone there: beside it the judge has card 312 in the prison, and the players must agree.
 WATCH = first_applicable([
     deny_overrides([
         permit(301, character="guard", deed="arrest"),
@@ -187,21 +189,21 @@ FIGHTS = deny_overrides([
         permit_overrides([
             permit(524, character="guard"),
             deny(525, character="judge"),
-        ], place="road..bridge"),
+        ], character="guard..judge", place="road..bridge"),
     ], place="road..ruins"),
     deny(531, character="innkeeper..priest"),
 ], deed="attack")
 
 # What outranks the other cards: a truce at the bridge and the mill, and the judge's word in court.
 TRUCE = first_applicable([
-    deny(601, place="bridge..mill", deed="smuggle..burn"),
+    deny(601, place="bridge..mill", deed="attack..burn"),
     deny_overrides([
         permit(602, character="judge"),
         deny(603, character="smuggler..thief", deed="trade..rest"),
     ], place="courthouse", deed="talk..arrest"),
 ])
 
-# The truce outranks harbour law, and that the rest. Where two of the last three speak, the players must agree: unclear.
+# The truce outranks harbour law, and that the rest. Of the last three only one applies: each has deeds of its own.
 RULEBOOK = first_applicable([
     TRUCE,
     HARBOUR_LAW,

@@ -96,7 +96,9 @@ kolfsein_answer kolfsein_read(const uint8_t *table, size_t table_len);
  * table's maximum is greater, only its diagram can be asked about those, one at a time.
  * A node applies to the set exactly where at least one member by itself meets its target and every target above it; a
  * rule that applies matches, and groups combine what their children give. So a set of one subject is ruled as that
- * subject, while the ruling on several does not follow from those on each.
+ * subject, while the ruling on several does not follow from those on each. An only-one-applicable group goes by how
+ * many of its children apply, groups in which no rule matches among them, so that a ruling without a card need not be
+ * KOLFSEIN_NOT_APPLICABLE.
  */
 kolfsein_answer kolfsein_rule(const uint8_t *table, size_t table_len,
                               uint64_t subjects, uint16_t resource, uint16_t action,

@@ -1,4 +1,4 @@
-// Building in plain C++ by the sets of rules that may still match.
+// Building in plain C++ by the sets of nodes that may still apply.
 #include <algorithm>
 #include <array>
 #include <cstddef>
@@ -72,8 +72,9 @@ private:
     size_t count_ = 0;
 };
 
-// Goes down with the set of rules that may still match: a ruling depends only on which rules match. Values of a field
-// that the same rules hold stand in one run, and a set that was met at a level has its place remembered.
+// Goes down with the set of nodes that may still apply, of those that a ruling depends on: rules, and groups in an
+// only-one-applicable group, which count there though no rule in them matches. Values of a field at which the same of
+// them apply stand in one run, and a set that was met at a level has its place remembered.
 class SetWalk {
 public:
     SetWalk(const Parsed &table, Entries &entries) : table_(table), entries_(entries) { find_runs(); }
@@ -83,11 +84,17 @@ public:
 private:
     struct Run {
         size_t last;
-        Set rules;
+        Set nodes;
     };
 
-    // A rule's range in a field is what its own range and all those above it share. A rule that has none in some field
-    // never matches and is in no set.
+    // Whether a ruling depends on it that a node applies.
+    bool matters(size_t i) const {
+        const Node &node = table_.nodes[i];
+        return node.is_rule() || (i > 0 && table_.nodes[node.parent].kind == 1);
+    }
+
+    // A node's range in a field is what its own range and all those above it share. A node that has none in some field
+    // never applies and is in no set.
     void find_runs() {
         struct Box {
             uint8_t low[FIELDS], high[FIELDS];
@@ -106,7 +113,7 @@ private:
                 }
                 possible = possible && boxes[i].low[field] <= boxes[i].high[field];
             }
-            if (!possible || !node.is_rule()) {
+            if (!possible || !matters(i)) {
                 continue;
             }
             all_.flip(i);
@@ -116,11 +123,11 @@ private:
             }
         }
         for (size_t field = 0; field < FIELDS; ++field) {
-            Set rules;
+            Set nodes;
             for (size_t value = 0; value <= table_.maxima[field]; ++value) {
                 if (value == 0 || changes[field][value] != Set{}) {
-                    rules = rules ^ changes[field][value];
-                    runs_[field].push_back({value, rules});
+                    nodes = nodes ^ changes[field][value];
+                    runs_[field].push_back({value, nodes});
                 }
                 runs_[field].back().last = value;
             }
@@ -135,45 +142,49 @@ private:
         Set before;
         size_t child = 0;
         for (const Run &run : runs_[field]) {
-            const Set rules = possible & run.rules;
-            if (child == 0 || rules != before) {
-                child = place_of(field + 1, rules);
+            const Set nodes = possible & run.nodes;
+            if (child == 0 || nodes != before) {
+                child = place_of(field + 1, nodes);
                 if (child == NO_PLACE) {
                     return NO_PLACE;
                 }
-                before = rules;
+                before = nodes;
             }
             node.extend(run.last, child);
         }
         return node.enter(entries_);
     }
 
-    size_t place_of(size_t field, const Set &rules) {
+    size_t place_of(size_t field, const Set &nodes) {
         Memo &memo = memos_[field - 1];
-        size_t place = memo.find(rules);
+        size_t place = memo.find(nodes);
         if (place == 0) {
-            place = walk(field, rules);
+            place = walk(field, nodes);
             if (place != NO_PLACE) {
-                memo.remember(rules, place);
+                memo.remember(nodes, place);
             }
         }
         return place;
     }
 
-    // What the table gives where these rules match: they are gone through upward, and the groups above each are opened.
-    size_t terminal(const Set &rules) {
+    // What the table gives where these nodes apply: they are gone through upward, and the groups above each are opened.
+    size_t terminal(const Set &nodes) {
         OpenTerminal terminal;
         OpenGroups groups;
         for (size_t half = 0; half < 2; ++half) {
-            for (uint64_t left = rules.words[half]; left != 0; left &= left - 1) {
+            for (uint64_t left = nodes.words[half]; left != 0; left &= left - 1) {
                 const size_t i = 64 * half + static_cast<size_t>(__builtin_ctzll(left));
-                const Node &rule = table_.nodes[i];
+                const Node &node = table_.nodes[i];
                 groups.close_before(i);
                 if (i > 0) {
-                    open_down_to(groups, rule.parent);
+                    open_down_to(groups, node.parent);
                 }
-                terminal.add(rule.card);
-                groups.take(rule.effect());
+                if (node.is_rule()) {
+                    terminal.add(node.card);
+                    groups.take(node.effect());
+                } else {
+                    groups.open(i, node);
+                }
             }
         }
         return terminal.enter(entries_, groups.close_all());

@@ -91,11 +91,11 @@ kolfsein_answer rule(const uint8_t *table, size_t length, uint64_t subjects, uin
     if (action > maxima[2]) {
         return refused(KOLFSEIN_VALUE, 2);
     }
-    // A group, the members for whom its target and every target above it hold, and its decision so far.
+    // A group, the members for whom its target and every target above it hold, and its running decision.
     struct Group {
         size_t end;
         uint64_t members;
-        uint8_t kind, decision;
+        uint8_t kind, running;
     };
     // The innermost open group, and those above it. The outermost stands for the table, and takes in the root's
     // decision.
@@ -126,22 +126,22 @@ kolfsein_answer rule(const uint8_t *table, size_t length, uint64_t subjects, uin
                     cards[count] = static_cast<uint16_t>(word(record + 3));
                 }
                 ++count;
-                group.decision = COMBINING[group.kind][group.decision][kind - 3];
+                group.running = COMBINING[group.kind][group.running][kind - 3];
             }
             ++i;
         }
         if (depth == 0) {
             break;
         }
-        const uint8_t decision = group.decision;
+        const uint8_t decision = decided(group.running);
         group = above[--depth];
-        group.decision = COMBINING[group.kind][group.decision][decision];
+        group.running = COMBINING[group.kind][group.running][decision];
     }
     if (count > room) {
         std::memset(cards, 0, room * sizeof *cards);
         return refused(KOLFSEIN_LIST_TOO_SHORT, 0);
     }
-    return {KOLFSEIN_OK, group.decision, 0, count, size_of(subjects)};
+    return {KOLFSEIN_OK, group.running, 0, count, size_of(subjects)};
 }
 
 namespace {

@@ -70,26 +70,26 @@ public:
     // Closes the groups that end before a node: each hands its decision up.
     void close_before(size_t number) {
         while (open_[depth_].end <= number) {
-            const uint8_t decision = open_[depth_--].decision;
+            const uint8_t decision = decided(open_[depth_--].running);
             take(decision);
         }
     }
 
-    // The innermost group takes in a child's decision.
+    // The innermost group takes in the decision of a child that applies.
     void take(uint8_t decision) {
         Group &group = open_[depth_];
-        group.decision = COMBINING[group.kind][group.decision][decision];
+        group.running = COMBINING[group.kind][group.running][decision];
     }
 
     uint8_t close_all() {
         close_before(MOST_NODES);
-        return open_[0].decision;
+        return open_[0].running;
     }
 
 private:
     struct Group {
         size_t node, end;
-        uint8_t kind, decision;
+        uint8_t kind, running;
     };
     Group open_[LEVELS + 1];
     size_t depth_;

@@ -18,13 +18,19 @@ constexpr size_t DIAGRAM_HEADER = 2 + FIELDS;
 constexpr size_t MOST_CARDS = KOLFSEIN_MOST_CARDS;
 constexpr size_t MOST_PLACES = KOLFSEIN_MOST_PLACES;
 
-// The four ways of combining, by group kind, running decision and child decision.
-constexpr uint8_t COMBINING[4][4][4] = {
+// The four ways of combining, by group kind, running decision and the decision of a child that applies; a child that
+// does not is never taken in. A running decision of 4 is none as well: only one applicable has it once a child has
+// counted that gives none, since any further child that applies is one too many. The eight rows of a kind, of which the
+// last ones are not met, are found by a shift.
+constexpr uint8_t COMBINING[4][8][4] = {
     {{0, 1, 2, 3}, {1, 1, 1, 1}, {2, 2, 2, 2}, {3, 3, 3, 3}},
-    {{0, 1, 2, 3}, {1, 3, 3, 3}, {2, 3, 3, 3}, {3, 3, 3, 3}},
+    {{4, 1, 2, 3}, {3, 3, 3, 3}, {3, 3, 3, 3}, {3, 3, 3, 3}, {3, 3, 3, 3}},
     {{0, 1, 2, 3}, {1, 1, 1, 1}, {2, 1, 2, 2}, {3, 1, 2, 3}},
     {{0, 1, 2, 2}, {1, 1, 2, 2}, {2, 2, 2, 2}, {2, 2, 2, 2}},
 };
+
+// What a group with this running decision gives.
+inline uint8_t decided(uint8_t running) { return running & 3; }
 
 inline kolfsein_answer refused(uint8_t number, size_t place) { return {number, 0, place, 0, 0}; }
 
@@ -49,7 +55,7 @@ kolfsein_answer look_up_unchecked(const uint16_t *diagram, size_t diagram_len, u
 // As kolfsein_build, by ruling on every request.
 kolfsein_answer build_by_requests(const uint8_t *table, size_t table_len, uint16_t *diagram, size_t diagram_len);
 
-// As kolfsein_build, by the sets of rules that may still match.
+// As kolfsein_build, by the sets of nodes that may still apply.
 kolfsein_answer build_by_sets(const uint8_t *table, size_t table_len, uint16_t *diagram, size_t diagram_len);
 
 }  // namespace plain

@@ -1,7 +1,8 @@
 /*
  * The interface as a C or a C++ program meets it, compiled from this one source as either: the header's names and
- * struct, the requirements' cases of table T, sets of subjects, each refusal of each call, null pointers of length 0,
- * and what stands around what is lent. Other tables and diagrams are left to the tests in Rust.
+ * struct, the requirements' cases of table T, sets of subjects, groups that count and are silent, each refusal of each
+ * call, null pointers of length 0, and what stands around what is lent. Other tables and diagrams are left to the tests
+ * in Rust.
  */
 #include "kolfsein.h" /* first, so that it needs nothing before it */
 
@@ -380,6 +381,53 @@ static void same_diagram(void) {
     rules(DENY_FIRST, &denied);
 }
 
+/* An only-one-applicable group over an empty group for subjects 1 to 2 and a rule to permit, card 1, for 0 to 1. */
+static const struct table SILENT_GROUP = {
+    {0, START(3) - 2, 1, 2, 0, 0, 0, 3,
+     1, 0, 3, 0, 0, 0, 2, 0, 0, 0, 0,
+     0, 0, 1, 0, 0, 1, 2, 0, 0, 0, 0,
+     4, 0, 1, 0, 1, 0, 1, 0, 0, 0, 0},
+    START(3)};
+
+/* Its diagram, and zeros after it. */
+static const struct diagram OF_SILENT_GROUP = {
+    {48, 40, 2, 0, 0,
+     /* 5 */ 0, 1, 1, 1,
+     /* 9 */ 3, 1, 0, 5,
+     /* 13 */ 2, 1, 0, 9,
+     /* 17 */ 0, 3, 1, 1,
+     /* 21 */ 3, 1, 0, 17,
+     /* 25 */ 2, 1, 0, 21,
+     /* 29 */ 0, 0, 0,
+     /* 32 */ 3, 1, 0, 29,
+     /* 36 */ 2, 1, 0, 32,
+     /* 40 */ 1, 3, 0, 13, 1, 25, 2, 36}};
+
+/* A group counts where its target holds, though no rule in it matches; so does the rule made a group. */
+static void silent_groups(void) {
+    static const kolfsein_answer built = {KOLFSEIN_OK, 0, 0, 48, 0};
+    static const struct asked each[] = {
+        {__LINE__, 0, 0, 0, 1, {KOLFSEIN_OK, KOLFSEIN_PERMIT, 0, 1, 0}, {1, 0}},
+        {__LINE__, 1, 0, 0, 1, {KOLFSEIN_OK, KOLFSEIN_INDETERMINATE, 0, 1, 0}, {1, 0}},
+        {__LINE__, 2, 0, 0, 1, {KOLFSEIN_OK, KOLFSEIN_NOT_APPLICABLE, 0, 0, 0}, {0, 0}},
+    };
+    static const struct asked_together by_two_members = {
+        __LINE__, 1 | 4, 0, 0, 1, {KOLFSEIN_OK, KOLFSEIN_INDETERMINATE, 0, 1, 2}, {1, 0}};
+    static const struct asked_together no_card = {
+        __LINE__, 2, 0, 0, 0, {KOLFSEIN_OK, KOLFSEIN_INDETERMINATE, 0, 0, 1}, {0, 0}};
+    struct table two_groups = SILENT_GROUP;
+    two_groups.bytes[START(2)] = 0;
+    two_groups.bytes[START(2) + 4] = 0;
+    builds(__LINE__, SILENT_GROUP, MOST_LENT, built, OF_SILENT_GROUP.numbers);
+    for (size_t i = 0; i < COUNT(each); i++) {
+        const struct asked_together set = alone(&each[i]);
+        rules(SILENT_GROUP, &set);
+        looks_up(OF_SILENT_GROUP, &each[i]);
+    }
+    rules(SILENT_GROUP, &by_two_members);
+    rules(two_groups, &no_card);
+}
+
 /* A table that each call refuses, whether or not the set that is asked has a fault too. */
 static void refuses(int line, struct table t, uint8_t number, size_t place) {
     const kolfsein_answer should = {number, 0, place, 0, 0};
@@ -444,6 +492,7 @@ int main(void) {
     by_itself();
     all_bits_of_a_set();
     same_diagram();
+    silent_groups();
     refusals();
     null_pointers();
     printf("%lu checks, %lu failures\n", checks, failures);

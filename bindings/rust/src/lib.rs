@@ -113,7 +113,9 @@ pub fn read(table: &[u8]) -> Result<usize, Refusal> {
 ///
 /// A node applies to the set exactly where at least one member by itself meets its target and every target above it; a
 /// rule that applies matches, and groups combine what their children give. So a set of one subject is ruled as that
-/// subject, while the ruling on several does not follow from those on each.
+/// subject, while the ruling on several does not follow from those on each. An only-one-applicable group goes by how
+/// many of its children apply, groups in which no rule matches among them, so that a ruling without a card need not be
+/// [`NotApplicable`](Decision::NotApplicable).
 ///
 /// ```
 /// use kolfsein::{Decision, JointRequest, Reason, Subjects};

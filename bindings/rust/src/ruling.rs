@@ -46,13 +46,13 @@ pub struct JointRequest {
 /// ```
 #[derive(Clone, Copy, Debug, PartialEq, Eq, Hash)]
 pub enum Decision {
-    /// No rule matches.
+    /// The groups give nothing.
     NotApplicable = 0,
     /// It may be done.
     Permit = 1,
     /// It may not be done.
     Deny = 2,
-    /// The rules leave it unclear.
+    /// It is left unclear, by rules that match or by groups in which none does.
     Indeterminate = 3,
 }
 

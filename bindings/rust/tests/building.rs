@@ -54,6 +54,7 @@ fn generated_tables() {
         builds(&mut compare, &mut random, &bytes);
     }
     compare.every_decision(50_000);
+    compare.silent_groups(10_000);
     compare.end(235_000_000, [0, 9, 10, 11, 13], 2_000);
 }
 

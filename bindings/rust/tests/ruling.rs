@@ -1,10 +1,11 @@
 //! Ruling by a table's groups.
 
 use crate::compare::Compare;
-use crate::evaluator::{self, Joint, Table, HEADER, MOST_SUBJECTS, OTHERS};
-use crate::generator::{accepted_table, any_maxima, damaged_table, decisions, flat};
+use crate::evaluator::{self, Joint, Ruled, Table, HEADER, MOST_SUBJECTS, OTHERS};
+use crate::generator::{accepted_table, any_maxima, children, damaged_table, flat};
 use crate::generator::{joint_requests_of, lists, ranges_of, sets_of, some_joint_requests};
-use crate::generator::{two_ranges, Random, HARBOUR};
+use crate::generator::{silent_groups, two_ranges, Random, CHILDREN, HARBOUR};
+use crate::pairs::builds;
 
 #[test]
 fn generated_tables() {
@@ -25,22 +26,31 @@ fn generated_tables() {
         }
     }
     compare.every_decision(50_000);
+    compare.silent_groups(7_000);
     compare.every_set(1_500);
     compare.end(75_000_000, (0..=10).chain([13]), 4_500);
 }
 
-/// Each kind over each four child decisions, with every list.
+/// Rules on each set with every list, and on each subject by the diagram.
+fn every_set(compare: &mut Compare, bytes: &[u8]) {
+    let (table, diagram) = builds(compare, bytes).expect("a small diagram");
+    for joint in joint_requests_of(&sets_of(&[0, 1, 2]), &[0]) {
+        compare.rules_with(bytes, &joint, &table.rule(&joint), 0..=9);
+    }
+    for values in [[0, 0, 0], [1, 0, 0], [2, 0, 0]] {
+        compare.looks_up_with(&diagram, values, &table.rule_one(values), [8]);
+    }
+}
+
+/// Each kind over each four children, all of them groups, and some of them rules.
 fn every_way(compare: &mut Compare) {
     for kind in 0..4 {
-        for number in 0..=255 {
-            compare.case("decisions", number.into());
-            let given = [number / 64, number / 16 % 4, number / 4 % 4, number % 4];
-            let bytes = decisions(kind, &given).bytes();
-            let table = Table::read(&bytes);
-            for members in [0..1, 1..2, 0..2] {
-                let joint = Joint::new(members, [0; OTHERS]);
-                let ruled = evaluator::rule(&table, &joint);
-                compare.rules_with(&bytes, &joint, &ruled, 0..=9);
+        for number in 0..625 {
+            compare.case("children", number);
+            let given = [number / 125, number / 25 % 5, number / 5 % 5, number % 5];
+            let given = given.map(|child| CHILDREN[child]);
+            for alone in [false, true] {
+                every_set(compare, &children(kind, &given, alone).bytes());
             }
         }
     }
@@ -101,5 +111,42 @@ fn small_tables_and_the_largest() {
         }
     }
     compare.every_decision(150);
-    compare.end(2_500_000, [0, 3, 9, 10, 13], 100);
+    compare.silent_groups(1_000);
+    compare.end(10_000_000, [0, 3, 9, 10, 13], 100);
+}
+
+/// The subjects of silent groups and those of rules to permit, all of them in an only-one group; a set, and the
+/// decision and the cards that it is given.
+type Silent<'a> = (&'static str, [&'a [u8]; 2], &'a [u16], u8, &'a [u16]);
+
+const SILENT: [Silent; 9] = [
+    ("one", [&[0], &[]], &[0], 0, &[]),
+    ("two", [&[0, 0], &[]], &[0], 3, &[]),
+    ("one and a rule", [&[0], &[0]], &[0], 3, &[1]),
+    ("one, no rule matches", [&[0], &[1]], &[0], 0, &[]),
+    ("its target fails", [&[1], &[]], &[0], 0, &[]),
+    ("one of two fails", [&[1, 0], &[]], &[0], 0, &[]),
+    ("it fails, and a rule", [&[1], &[0]], &[0], 1, &[1]),
+    ("two, by two members", [&[1, 0], &[]], &[0, 1], 3, &[]),
+    ("and a rule, by two", [&[1], &[0]], &[0, 1], 3, &[1]),
+];
+
+/// "a group child counts when its target holds, though no card in it matches."
+#[test]
+fn silent_groups_count() {
+    let mut compare = Compare::new("silent groups");
+    for (case, [groups, rules], members, decision, cards) in SILENT {
+        for empty in [false, true] {
+            compare.case(case, empty.into());
+            let bytes = silent_groups(groups, rules, empty).bytes();
+            let joint = Joint::new(members.to_vec(), [0; OTHERS]);
+            let ruled = evaluator::rule(&Table::read(&bytes), &joint);
+            let cards = cards.to_vec();
+            let due = Ok(Ruled { decision, cards });
+            compare.same("what the evaluator gives", &ruled, &due);
+            every_set(&mut compare, &bytes);
+        }
+    }
+    compare.silent_groups(150);
+    compare.end(25_000, [0, 10, 13], 30);
 }

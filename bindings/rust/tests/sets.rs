@@ -15,6 +15,9 @@ fn some_table(random: &mut Random) -> Outline {
         maxima[0] = random.of(&[62, 63, 64, 255]);
     }
     let mut table = accepted_table(random, maxima);
+    if random.one_in(2) {
+        part_subjects(random, &mut table);
+    }
     let rules = table.nodes.iter_mut().filter(|node| !node.is_group());
     for (card, rule) in (1..).zip(rules) {
         rule.card = card;
@@ -22,11 +25,27 @@ fn some_table(random: &mut Random) -> Outline {
     table
 }
 
+/// The root is then an only-one group, where it is a group, and what is in such a group is for few subjects each: often
+/// one child holds for one member of a set, and another for another.
+fn part_subjects(random: &mut Random, table: &mut Outline) {
+    let most = table.maxima[0];
+    if table.nodes[0].is_group() {
+        table.nodes[0].kind = 1;
+    }
+    for place in 1..table.nodes.len() {
+        if table.parent(place).kind == 1 {
+            let low = random.below(usize::from(most.min(63)) + 1) as u8;
+            table.nodes[place].ranges[0] = (low, most.min(low + random.below(3) as u8));
+        }
+    }
+}
+
 /// A set of one subject is ruled as that subject, and as the built diagram rules; a rule matches for a set exactly where
 /// it matches for one of its members by itself.
 #[test]
 fn members_by_themselves() {
     let mut compare = Compare::new("sets beside their members");
+    let mut silent = 0;
     for seed in 0..1_000 {
         compare.case("seed", seed);
         let mut random = Random::new(seed);
@@ -37,7 +56,7 @@ fn members_by_themselves() {
         };
         let any = |most: u16| random.below(usize::from(most) + 1) as u16;
         let [_, others @ ..] = table.maxima.map(any);
-        let mut cards = Vec::new();
+        let mut alone = Vec::new();
         for subject in 0..=table.maxima[0] {
             let values = Joint::new([], others).asked_by(subject);
             let ruled = table.rule_one(values);
@@ -46,19 +65,26 @@ fn members_by_themselves() {
                 compare.same("the ruling on a set of one", &table.rule(&joint), &ruled);
                 compare.rules_with(&bytes, &joint, &ruled, [127]);
             }
-            cards.push(ruled.expect("values within the maxima").cards);
+            alone.push(ruled.expect("values within the maxima"));
         }
         for joint in some_joint_requests(&mut random, outline.maxima, &[], 16) {
             let joint = Joint { others, ..joint };
             let ruled = table.rule(&joint);
             compare.rules_with(&bytes, &joint, &ruled, [127]);
             let Ok(ruled) = ruled else { continue };
-            let members = joint.members.iter().map(|&member| usize::from(member));
-            let each: BTreeSet<u16> = members.flat_map(|member| cards[member].clone()).collect();
+            let members = joint.members.iter();
+            let members = Vec::from_iter(members.map(|&member| &alone[usize::from(member)]));
+            let each: BTreeSet<u16> = members.iter().flat_map(|one| one.cards.clone()).collect();
+            // indeterminate by a silent group for one member, and for another by one more or by a rule
+            let decisions = members.iter().map(|one| one.decision);
+            let apart = ruled.decision == 3 && ruled.cards.len() < 2 && decisions.max() < Some(3);
+            silent += u64::from(apart);
             compare.same("the cards of a set", ruled.cards, Vec::from_iter(each));
         }
     }
+    assert!(silent >= 120, "silent groups of two members: {silent}");
     compare.every_decision(1_000);
+    compare.silent_groups(500);
     compare.every_set(40);
     compare.end(18_000_000, [0, 13], 500);
 }
@@ -109,6 +135,7 @@ fn runs_of_subjects() {
         }
     }
     compare.every_decision(1_000);
+    compare.silent_groups(1_000);
     compare.every_set(10);
     compare.end(5_000_000, [0, 10], 5_000);
 }

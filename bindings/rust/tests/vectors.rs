@@ -12,9 +12,9 @@ const VECTORS: &str = include_str!("../../../crates/cases/stdin");
 /// How many cases there are of each call at least.
 const LEAST: [(&str, usize); 4] = [
     ("read", 150),
-    ("rule", 400),
-    ("build", 60),
-    ("look_up", 300),
+    ("rule", 550),
+    ("build", 75),
+    ("look_up", 320),
 ];
 
 /// A call with its input, what is asked, and how many places are lent.

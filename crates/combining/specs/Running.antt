@@ -3,12 +3,12 @@
 use mathlib.Core.Path.{_≡_}
 use mathlib.Core.List.{[], _∷_}
 use Prim.Native.Nat.{ℕ, _<_}
-use Rattle.combining.specs.Ways.{notApplicable, Child, heard, way, step}
+use Rattle.combining.specs.Ways.{Child, asChild, absent, way, step}
 use Rattle.combining.specs.declared.Running.{Running}
 
--- a running decision beside the child that is taken in
+-- "Beside the running decision a group now keeps whether a child has counted": the two, beside the child that is taken in
 abbrev pub soFar : Running → Child
-soFar r = heard (r .decision)
+soFar r = asChild (r .decision) (r .counted)
 
 -- A running decision that a group can have: one of the four, and what the group's way gives of it alone.
 pub record Reachable (r : Running) : Type 0 where
@@ -16,19 +16,19 @@ pub record Reachable (r : Running) : Type 0 where
   pub one-of-four : r .decision < 4
   pub alone : way (r .kind) (soFar r ∷ []) ≡ r .decision
 
--- "A running decision starts at none": that of a group of a kind
+-- "A running decision starts at none", and no child has counted: that of a group of a kind
 pub record Started (kind : ℕ) (r : Running) : Type 0 where
   pub same-kind : r .kind ≡ kind
-  pub none : r .decision ≡ notApplicable
+  pub none : soFar r ≡ absent
   pub reachable : Reachable r
 
--- "indexed by group kind, running decision and child decision (0 to 3 each)": a child of this decision can be taken in
-pub record Takes (r : Running) (child : ℕ) : Type 0 where
+-- "indexed by group kind, running decision and child decision (0 to 3 each)": this child can be taken in
+pub record Takes (r : Running) (c : Child) : Type 0 where
   pub reachable : Reachable r
-  pub one-of-four : child < 4
+  pub one-of-four : c .decision < 4
 
 -- "takes in one child after another": with one child more
-pub record Taken (r : Running) (child : ℕ) (next : Running) : Type 0 where
+pub record Taken (r : Running) (c : Child) (next : Running) : Type 0 where
   pub same-kind : next .kind ≡ r .kind
-  pub combined : next .decision ≡ step (r .kind) (soFar r) (heard child)
+  pub combined : soFar next ≡ step (r .kind) (soFar r) c
   pub reachable : Reachable next

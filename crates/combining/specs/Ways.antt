@@ -1,6 +1,6 @@
 -- How a group combines its children, as document 01 words it under "How a table rules": over the list of these, in order.
 -- Assumes nothing: these are definitions.
-use mathlib.Core.Bool.{Bool, false, not, cond, _||_}
+use mathlib.Core.Bool.{Bool, false, cond, _||_}
 use mathlib.Core.List.{List, [], _∷_}
 use Prim.Native.Nat.{ℕ}
 use lib.Dec.{eqb}
@@ -28,9 +28,13 @@ pub record Child : Type 0 where
   pub decision : ℕ
   pub counts : Bool
 
--- "if exactly one child gives something": a child of this decision, which counts where that isn't none
-abbrev pub heard : ℕ → Child
-heard d = record { decision = d; counts = not (eqb d notApplicable) }
+-- a decision as a child, which counts or not
+abbrev pub asChild : ℕ → Bool → Child
+asChild d counts = record { decision = d; counts = counts }
+
+-- none, and it does not count
+abbrev pub absent : Child
+absent = asChild notApplicable false
 
 -- the decisions of children
 abbrev pub decisions : List Child → List ℕ
@@ -51,13 +55,13 @@ applicable (d ∷ ds) = cond (eqb d notApplicable) (applicable ds) (d ∷ applic
 abbrev pub firstApplicable : List ℕ → ℕ
 firstApplicable ds = getD (applicable ds) 0 notApplicable
 
--- none of no decision, "the one decision if exactly one", "unclear if two or more"
+-- paper 2, "None counted gives none, two or more give unclear, one gives its own decision."
 abbrev pub sole : List ℕ → ℕ
 sole [] = notApplicable
 sole (d ∷ []) = d
 sole (d ∷ e ∷ ds) = indeterminate
 
--- "Only one: none if every child gives none; the one decision if exactly one child gives something; unclear if two or more do."
+-- "Only one", as paper 2 words it: by the children that count, and by nothing else of the others
 abbrev pub onlyOneApplicable : List Child → ℕ
 onlyOneApplicable cs = sole (counting cs)
 
@@ -89,11 +93,12 @@ way k cs =
     (cond (eqb k permitOverridesKind) (permitOverrides (decisions cs))
     (denyOverrides (decisions cs))))
 
--- "The four ways are kept as one constant table, indexed by group kind, running decision and child decision": the way of these two
-abbrev pub step : ℕ → Child → Child → ℕ
-step k r c = way k (r ∷ c ∷ [])
+-- "A running decision starts at none and takes in one child after another"; paper 2, "Beside the running decision a group now keeps whether a
+-- child has counted": the two as a child, with one child more
+abbrev pub step : ℕ → Child → Child → Child
+step k r c = asChild (way k (r ∷ c ∷ [])) (r .counts || c .counts)
 
--- "A running decision [..] takes in one child after another."
-abbrev pub taken : ℕ → ℕ → List Child → ℕ
+-- with all children of a list, one after another
+abbrev pub taken : ℕ → Child → List Child → Child
 taken k r [] = r
-taken k r (c ∷ cs) = taken k (step k (heard r) c) cs
+taken k r (c ∷ cs) = taken k (step k r c) cs

@@ -1,8 +1,9 @@
 // Decisions, kinds of nodes, and how a group combines its children's decisions.
 ghost use mathlib.Core.Path.{_≡_};
 ghost use Prim.Native.Nat.{_<_};
-ghost use Rattle.combining.specs.Ways.{heard, step};
+ghost use Rattle.combining.specs.Ways.{asChild};
 ghost use Rattle.combining.specs.Running.{Started, Takes, Taken};
+ghost use Rattle.combining.specs.Table.{onlyOneBlock, blockOf, Combines};
 
 // The four decisions, by number.
 pub struct Decision {
@@ -57,43 +58,68 @@ const D: u8 = Decision::DENY;
 
 const I: u8 = Decision::INDETERMINATE;
 
-// The four ways of combining, by kind of group, running decision and child decision.
-const COMBINING: [[[u8; 4]; 4]; 4] = [
+// A table of the ways of combining, by block, running decision and child decision: a block for each kind of group, and three more for only
+// one applicable.
+pub type Ways = [[[u8; 4]; 4]; 7];
+
+// The four ways. Under only one applicable a child that does not count leaves the running decision, the first that counts gives its own, and
+// any further one is too many.
+const COMBINING: Ways = [
+    // first applicable
     [[N, P, D, I], [P, P, P, P], [D, D, D, D], [I, I, I, I]],
-    [[N, P, D, I], [P, I, I, I], [D, I, I, I], [I, I, I, I]],
+    // only one applicable: no child has counted before, and this one does not
+    [[N, N, N, N], [P, P, P, P], [D, D, D, D], [I, I, I, I]],
+    // permit overrides
     [[N, P, D, I], [P, P, P, P], [D, P, D, D], [I, P, D, I]],
+    // deny overrides
     [[N, P, D, D], [P, P, D, D], [D, D, D, D], [D, D, D, D]],
+    // only one applicable: no child has counted before, and this one does
+    [[N, P, D, I], [N, P, D, I], [N, P, D, I], [N, P, D, I]],
+    // only one applicable: a child has counted before, and this one does not
+    [[N, N, N, N], [P, P, P, P], [D, D, D, D], [I, I, I, I]],
+    // only one applicable: a child has counted before, and this one does
+    [[I, I, I, I], [I, I, I, I], [I, I, I, I], [I, I, I, I]],
 ];
 
-// Where a kind of group stands in the table.
-fn block_of(kind: u8) -> usize
+// Which of only one applicable's blocks: by whether a child has counted before, and by whether this one counts.
+fn only_one_block(counted: bool, counts: bool) -> usize
+    ensures { λ r. ⌜ (r ≡ onlyOneBlock counted counts) × (r < 7) ⌝ }
+{
+    if counted {
+        if counts { 6 } else { 5 }
+    } else {
+        if counts { 4 } else { 1 }
+    }
+}
+
+// Which block of the table a kind of group goes by.
+fn block_of(kind: u8, counted: bool, counts: bool) -> usize
     requires { ⌜ kind < 4 ⌝ }
-    ensures { λ r. ⌜ r ≡ kind ⌝ }
+    ensures { λ r. ⌜ (r ≡ blockOf kind counted counts) × (r < 7) ⌝ }
 {
     match kind {
         Kind::FIRST_APPLICABLE => 0,
-        Kind::ONLY_ONE_APPLICABLE => 1,
+        Kind::ONLY_ONE_APPLICABLE => only_one_block(counted, counts),
         Kind::PERMIT_OVERRIDES => 2,
         _ => 3,
     }
 }
 
-// One entry of the table.
-fn combined(kind: u8, running: usize, child: usize) -> u8
-    requires { ⌜ (kind < 4) × (running < 4) × (child < 4) ⌝ }
-    ensures { λ r. ⌜ (r ≡ step kind (heard running) (heard child)) × (r < 4) ⌝ }
-{
-    let block = block_of(kind);
-    COMBINING[block][running][child]
-}
-
-// A group's decision so far (document 01's running decision), with the group's kind.
+// A group's decision so far (document 01's running decision) and whether a child has counted, with the group's kind.
 pub struct Running {
     pub kind: u8,
     pub decision: u8,
+    pub counted: bool,
 }
 
 impl Running {
+    // The table of the four ways, laid out once for all groups of a ruling.
+    pub fn ways() -> Ways
+        ensures { λ r. ⌜ Combines r ⌝ }
+    {
+        COMBINING
+    }
+
     // Before the first child.
     pub fn start(kind: u8) -> Self
         requires { ⌜ kind < 4 ⌝ }
@@ -102,17 +128,20 @@ impl Running {
         Self {
             kind,
             decision: Decision::NOT_APPLICABLE,
+            counted: false,
         }
     }
 
-    // With one child decision more.
-    pub fn take(self, child: u8) -> Self
-        requires { ⌜ Takes self child ⌝ }
-        ensures { λ r. ⌜ Taken self child r ⌝ }
+    // With one child more, which gives this decision, and counts or not: by the table of the ways.
+    pub fn take(self, ways: &Ways, decision: u8, counts: bool) -> Self
+        requires { ⌜ Combines (now ways) × Takes self (asChild decision counts) ⌝ }
+        ensures { λ r. ⌜ Taken self (asChild decision counts) r ⌝ }
     {
+        let block = block_of(self.kind, self.counted, counts);
         Self {
             kind: self.kind,
-            decision: combined(self.kind, self.decision as usize, child as usize),
+            decision: ways[block][self.decision as usize][decision as usize],
+            counted: self.counted | counts,
         }
     }
 }

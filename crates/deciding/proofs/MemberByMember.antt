@@ -9,6 +9,7 @@ use Prim.Native.Nat.{ℕ, zero, suc, _+_, _-_, _≤_, _<_}
 use native.Mathlib.Nat.{eq-or-lt-of-le}
 use native.Mathlib.Omega.{arith}
 use Rattle.answer.proofs.Tests.{lt-or-ge}
+use Rattle.combining.specs.Ways.{asChild}
 use Rattle.combining.specs.Running.{Reachable, Started, Taken}
 use Rattle.combining.specs.declared.Running.{Running}
 use Rattle.table.specs.Layout.{kind, span, count}
@@ -86,12 +87,12 @@ module _ {a : ℕ → Bool} {t : List ℕ} (w : WellFormed t) (c : Closed t a) w
     next-within l es = omega (arith, h .whole .each child (omega arith) l, h .whole .inside, w .few)
 
     -- the next child, once this one was taken in
-    pub before-next : {d s next : ℕ} {r' : Running} → child < end → d ≡ decision a t child → Taken r d r' →
+    pub before-next : {d s next : ℕ} {r' : Running} → child < end → d ≡ decision a t child → Taken r (asChild d true) r' →
         s ≡ span t child → Next most a (child + s) next → Before a t i end next r'
     before-next {d} {s} l ed k es n =
         let z : child + s ≡ endOf t child = omega arith in
         stepped (k .reachable) (rw z (whole-after t w child end (h .whole))) (omega (arith, h .later)) n
-        (h .left ∙ over-more a t w (h .reachable) (h .whole) l z ed k)
+        (h .left ∙ over-more a t w (h .reachable) (h .whole) l z (h .in-set l) ed k)
 
     -- no child is left
     pub before-end : end ≤ child → r .decision ≡ decision a t i

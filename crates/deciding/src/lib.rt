@@ -2,6 +2,7 @@
 use combining::Decision;
 use combining::Kind;
 use combining::Running;
+use combining::Ways;
 use ruling::groups::Ruled;
 use ruling::groups::effect_of;
 use ruling::groups::put;
@@ -15,6 +16,7 @@ ghost use mathlib.Core.Bool.{true};
 ghost use Prim.Native.Nat.{_<_};
 ghost use lib.ListN.{length};
 ghost use lib.Seq.{sets};
+ghost use Rattle.combining.specs.Table.{Combines};
 ghost use Rattle.sets.specs.Sets.{has};
 ghost use Rattle.table.specs.Layout.{count};
 ghost use Rattle.table.specs.WellFormed.{WellFormed};
@@ -22,8 +24,8 @@ ghost use Rattle.ruling.specs.Meaning.{decision, cards, meaning};
 ghost use Rattle.deciding.specs.Closed.{Closed};
 
 // The decision of node i, which is in the set.
-fn decide(table: &[u8], applying: Set, i: usize) -> u8
-    requires { ⌜ WellFormed (now table) ⌝ }
+fn decide(table: &[u8], ways: &Ways, applying: Set, i: usize) -> u8
+    requires { ⌜ WellFormed (now table) × Combines (now ways) ⌝ }
     requires { ⌜ Closed (now table) (has applying) ⌝ }
     requires { ⌜ (i < count (now table)) × (has applying i ≡ true) ⌝ }
     ensures { λ r. ⌜ r ≡ decision (has applying) (now (table .entry)) i ⌝ }
@@ -36,7 +38,8 @@ fn decide(table: &[u8], applying: Set, i: usize) -> u8
     let mut running = Running::start(kind);
     let mut child = applying.next(i + 1);
     while child < end {
-        running = running.take(decide(table, applying, child));
+        let decision = decide(table, ways, applying, child);
+        running = running.take(ways, decision, true);
         child = applying.next(child + span_at(table, child));
     }
     running.decision
@@ -49,7 +52,8 @@ fn decide_root(table: &[u8], applying: Set) -> u8
     ensures { λ r. ⌜ r ≡ decision (has applying) (now (table .entry)) 0 ⌝ }
 {
     if applying.has(0) {
-        decide(table, applying, 0)
+        let ways = Running::ways();
+        decide(table, &ways, applying, 0)
     } else {
         Decision::NOT_APPLICABLE
     }

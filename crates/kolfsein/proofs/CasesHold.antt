@@ -27,12 +27,13 @@ use Rattle.sets.specs.Sets.{bit}
 use Rattle.diagram.specs.Entries.{terminal, node}
 use Rattle.diagram.specs.Decided.{le?, lt?, eq?, iff?, not?, and?, or?, when?, one-more?, each?}
 use Rattle.diagram.specs.SoundIsDecided.{scan?, start?, entry-before?, terminal-holds?, sound-terminal?, sound-node?, sound-entry?, sound?}
+use Rattle.diagram.specs.LookUp.{edge, lookUp}
 use Rattle.diagram.specs.Walk.{enter, extend, below, walk, diagram}
 use Rattle.diagram.proofs.DiagramGoesByRulingsWithin.{diagram-goes-by-rulings-within}
 use Rattle.diagram.proofs.OneRulingForAll.{none-everywhere}
 use Rattle.building.specs.Built.{diagramOf}
 use Rattle.building.proofs.BuildAnswers.{accepted-built}
-use Rattle.kolfsein.specs.Cases.{tableT, overOnlyOne, emptyRoot, emptyDiagram, permitFirst, denyFirst, ruleFor1InGroupFor0, GivesRuling, GivesDiagram, Cases}
+use Rattle.kolfsein.specs.Cases.{tableT, overOnlyOne, emptyRoot, emptyDiagram, permitFirst, denyFirst, ruleFor1InGroupFor0, silentBesidePermit, oneSilent, twoSilent, emptyBesidePermit, GivesRuling, GivesDiagram, Cases}
 
 either : (b : Bool) (n : ℕ) → cond b n n ≡ n
 either true n = refl
@@ -107,7 +108,7 @@ module _ (kind subject resource action : ℕ) (few : kind < 4) where
       }
 
 pub cases-hold : Cases
-unfolding diagram walk enter extend below terminal node tableT overOnlyOne permitFirst denyFirst ruleFor1InGroupFor0 upward settled word maximum valuesFrom maxima count header recordSize start recordByte recordWord parent level lengthFault versionFault countFault kindFault spanFault levelFault rangeFault rangesFault cardFault tableRefusals forestWithin inRange targetHolds applies bit someBelow countBelow appliesToSome subjectsFault gives cardsFrom le? lt? eq? iff? not? and? or? when? one-more? each? scan? start? entry-before? terminal-holds? sound-terminal? sound-node? sound-entry? sound?
+unfolding diagram walk enter extend below terminal node edge lookUp tableT overOnlyOne permitFirst denyFirst ruleFor1InGroupFor0 silentBesidePermit oneSilent twoSilent emptyBesidePermit upward settled word maximum valuesFrom maxima count header recordSize start recordByte recordWord parent level lengthFault versionFault countFault kindFault spanFault levelFault rangeFault rangesFault cardFault tableRefusals forestWithin inRange targetHolds applies bit someBelow countBelow appliesToSome subjectsFault gives cardsFrom le? lt? eq? iff? not? and? or? when? one-more? each? scan? start? entry-before? terminal-holds? sound-terminal? sound-node? sound-entry? sound?
 cases-hold =
     record {
       t-0-0-0 = record { answer = refl; holds = refl };
@@ -139,4 +140,11 @@ cases-hold =
       equal-diagrams = record { first-built = refl; second-built = refl; equal = refl };
       permit-first = record { answer = refl; holds = refl };
       deny-first = record { answer = refl; holds = refl };
+      silent-beside-permit = record { answer = refl; holds = refl };
+      one-silent = record { answer = refl; holds = refl };
+      two-silent = record { answer = refl; holds = refl };
+      two-silent-looked-up = record { answer = refl; holds = refl };
+      one-counts-for-0 = record { answer = refl; holds = refl };
+      one-counts-for-1 = record { answer = refl; holds = refl };
+      two-count-for-both = record { answer = refl; holds = refl };
     }

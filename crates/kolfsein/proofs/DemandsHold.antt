@@ -16,10 +16,11 @@ use Rattle.table.specs.Layout.{maximum, maxima, count}
 use Rattle.table.specs.Reading.{tableRefusals, Accepted}
 use Rattle.table.proofs.Accepting.{accepted-reading}
 use Rattle.table.proofs.AcceptedIsWellFormed.{well-formed}
-use Rattle.ruling.specs.Targets.{applies}
+use Rattle.ruling.specs.Targets.{targetHolds, applies}
 use Rattle.ruling.specs.Subjects.{mostSubjects, appliesToSome, size, AskedWithin}
 use Rattle.ruling.specs.Ruling.{groups, groupsTogether, askedRefusals, rulingRefusals, ruling, ruledList}
 use Rattle.ruling.proofs.DecisionAsWorded.{decision-as-worded}
+use Rattle.ruling.proofs.Throughout.{pass-root}
 use Rattle.ruling.proofs.AppliesByParents.{applies-by-parents}
 use Rattle.ruling.proofs.SubjectsByParents.{applies-to-some-by-parents}
 use Rattle.ruling.proofs.ChildrenByParents.{children-by-parents}
@@ -146,7 +147,7 @@ demands-hold =
       one-by-diagram = alone;
       diagram-rules = through;
       equal-exactly = equal;
-      decision-worded = λ t q c. sym (decision-as-worded t q c 0 (well-formed t c .some));
+      decision-worded = λ t q c. sym (decision-as-worded t q c 0 (well-formed t c .some) (pass-root t (targetHolds t q)));
       matches-worded = λ t q i c l. applies-by-parents t q c i l;
       count-worded = λ t q. number-of-cards (applies t q) t;
       list-worded = λ t q i l e. each-listed (applies t q) t i l e;

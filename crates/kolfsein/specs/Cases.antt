@@ -2,9 +2,10 @@
 -- Assumes nothing: these are definitions.
 use mathlib.Core.List.{List, [], _∷_}
 use mathlib.Core.Path.{_≡_}
-use Prim.Native.Nat.{ℕ, _+_, _^_, _≤_, _<_}
+use Prim.Native.Nat.{ℕ, _+_, _*_, _^_, _≤_, _<_}
 use Rattle.answer.specs.Answers.{refused, counted, ruled, zeros, padded}
 use Rattle.answer.specs.declared.Answer.{Answer}
+use Rattle.combining.specs.Kinds.{firstApplicableKind, onlyOneApplicableKind}
 use Rattle.combining.specs.Ways.{notApplicable, permit, deny, indeterminate}
 use Rattle.table.specs.Layout.{maximum}
 use Rattle.ruling.specs.Subjects.{size, AskedWithin}
@@ -59,17 +60,18 @@ permitFor0 more = 4 ∷ 0 ∷ 1 ∷ 0 ∷ 1 ∷ 0 ∷ 0 ∷ 0 ∷ 0 ∷ 0 ∷ 0 
 abbrev denyFor1 : List ℕ → List ℕ
 denyFor1 more = 5 ∷ 0 ∷ 1 ∷ 0 ∷ 2 ∷ 1 ∷ 1 ∷ 0 ∷ 0 ∷ 0 ∷ 0 ∷ more
 
--- "in a 'first' group": the header and a first-applicable root, before two rules; the subject maximum is 1, the others are 0
-abbrev firstOf : List ℕ → List ℕ
-firstOf rules = 0 ∷ 39 ∷ 1 ∷ 1 ∷ 0 ∷ 0 ∷ 0 ∷ 3 ∷ 0 ∷ 0 ∷ 3 ∷ 0 ∷ 0 ∷ 0 ∷ 1 ∷ 0 ∷ 0 ∷ 0 ∷ 0 ∷ rules
+-- the header and a root of a kind, for subjects 0 and 1, before n nodes under it; the subject maximum is 1, the others are 0
+abbrev rootOver : ℕ → ℕ → List ℕ → List ℕ
+rootOver kind n nodes =
+    0 ∷ (11 * n + 17) ∷ 1 ∷ 1 ∷ 0 ∷ 0 ∷ 0 ∷ (n + 1) ∷ kind ∷ 0 ∷ (n + 1) ∷ 0 ∷ 0 ∷ 0 ∷ 1 ∷ 0 ∷ 0 ∷ 0 ∷ 0 ∷ nodes
 
--- "a may card for figure 0 and a may not card for figure 1" in such a group
+-- "a may card for figure 0 and a may not card for figure 1" "in a 'first' group"
 unfoldable pub permitFirst : List ℕ
-permitFirst = firstOf (permitFor0 (denyFor1 []))
+permitFirst = rootOver firstApplicableKind 2 (permitFor0 (denyFor1 []))
 
 -- the same, after they "change places"
 unfoldable pub denyFirst : List ℕ
-denyFirst = firstOf (denyFor1 (permitFor0 []))
+denyFirst = rootOver firstApplicableKind 2 (denyFor1 (permitFor0 []))
 
 -- a permit rule for subject 1 in a group for subject 0, under a root for both; the subject maximum is 1, the others are 0
 unfoldable pub ruleFor1InGroupFor0 : List ℕ
@@ -79,6 +81,33 @@ ruleFor1InGroupFor0 =
     ∷ 0 ∷ 0 ∷ 2 ∷ 0 ∷ 0 ∷ 0 ∷ 0 ∷ 0 ∷ 0 ∷ 0 ∷ 0
     ∷ 4 ∷ 0 ∷ 1 ∷ 0 ∷ 1 ∷ 1 ∷ 1 ∷ 0 ∷ 0 ∷ 0 ∷ 0
     ∷ []
+
+-- paper 2, "A group that holds but is silent": for subjects 0 and 1, over a permit rule for subject 1, with card 3
+abbrev silentFor0 : List ℕ → List ℕ
+silentFor0 more =
+    0 ∷ 0 ∷ 2 ∷ 0 ∷ 0 ∷ 0 ∷ 1 ∷ 0 ∷ 0 ∷ 0 ∷ 0
+    ∷ 4 ∷ 0 ∷ 1 ∷ 0 ∷ 3 ∷ 1 ∷ 1 ∷ 0 ∷ 0 ∷ 0 ∷ 0
+    ∷ more
+
+-- an empty group for subject 1
+abbrev emptyFor1 : List ℕ → List ℕ
+emptyFor1 more = 0 ∷ 0 ∷ 1 ∷ 0 ∷ 0 ∷ 1 ∷ 1 ∷ 0 ∷ 0 ∷ 0 ∷ 0 ∷ more
+
+-- an "only one" group over such a silent group "beside one matching may card"
+unfoldable pub silentBesidePermit : List ℕ
+silentBesidePermit = rootOver onlyOneApplicableKind 3 (silentFor0 (permitFor0 []))
+
+-- over a silent group alone
+unfoldable pub oneSilent : List ℕ
+oneSilent = rootOver onlyOneApplicableKind 2 (silentFor0 [])
+
+-- over two silent groups
+unfoldable pub twoSilent : List ℕ
+twoSilent = rootOver onlyOneApplicableKind 4 (silentFor0 (silentFor0 []))
+
+-- over an empty group for subject 1 and a permit rule for subject 0
+unfoldable pub emptyBesidePermit : List ℕ
+emptyBesidePermit = rootOver onlyOneApplicableKind 2 (emptyFor1 (permitFor0 []))
 
 -- "bit k stands for figure k": the set of subject k alone
 abbrev pub only : ℕ → ℕ
@@ -163,3 +192,15 @@ pub record Cases : Type 0 where
   pub equal-diagrams : EqualDiagrams permitFirst denyFirst 64
   pub permit-first : GivesRuling permitFirst (only 0 + only 1) (0 ∷ 0 ∷ []) 2 (ruled permit 2 2) (1 ∷ 2 ∷ [])
   pub deny-first : GivesRuling denyFirst (only 0 + only 1) (0 ∷ 0 ∷ []) 2 (ruled deny 2 2) (2 ∷ 1 ∷ [])
+  -- paper 2, "A group that holds but is silent, beside one matching may card, is now unclear.": with that card
+  pub silent-beside-permit : GivesRuling silentBesidePermit (only 0) (0 ∷ 0 ∷ []) 2 (ruled indeterminate 1 1) (1 ∷ 0 ∷ [])
+  -- "one gives its own decision": none, of a silent group
+  pub one-silent : GivesRuling oneSilent (only 0) (0 ∷ 0 ∷ []) 1 (ruled notApplicable 0 1) (0 ∷ [])
+  -- "two or more give unclear": with no card, by the groups and by the diagram
+  pub two-silent : GivesRuling twoSilent (only 0) (0 ∷ 0 ∷ []) 1 (ruled indeterminate 0 1) (0 ∷ [])
+  pub two-silent-looked-up : GivesLookUp (builtDiagram twoSilent 64) (0 ∷ 0 ∷ 0 ∷ []) 1 (ruled indeterminate 0 0) (0 ∷ [])
+  -- "For a party, a child counts when it holds for the party.": the rule alone for subject 0, the empty group alone for subject 1, for both
+  -- together the two
+  pub one-counts-for-0 : GivesRuling emptyBesidePermit (only 0) (0 ∷ 0 ∷ []) 1 (ruled permit 1 1) (1 ∷ [])
+  pub one-counts-for-1 : GivesRuling emptyBesidePermit (only 1) (0 ∷ 0 ∷ []) 1 (ruled notApplicable 0 1) (0 ∷ [])
+  pub two-count-for-both : GivesRuling emptyBesidePermit (only 0 + only 1) (0 ∷ 0 ∷ []) 1 (ruled indeterminate 1 2) (1 ∷ [])

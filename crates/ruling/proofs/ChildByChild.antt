@@ -5,7 +5,7 @@ use mathlib.Core.Bool.{Bool, true, false}
 use mathlib.Core.List.{List}
 use Prim.Native.Nat.{ℕ, _+_, _≤_, _<_}
 use native.Mathlib.Omega.{arith}
-use Rattle.combining.specs.Ways.{way}
+use Rattle.combining.specs.Ways.{asChild, way}
 use Rattle.combining.specs.Running.{Reachable, Started, Taken}
 use Rattle.combining.specs.declared.Running.{Running}
 use Rattle.table.specs.Layout.{count, span}
@@ -70,10 +70,10 @@ module _ {a : ℕ → Bool} {t : List ℕ} (w : WellFormed t) where
         }
 
         -- the next child, once this one was ruled and taken in
-        pub before-next : {d n' : ℕ} {r' : Running} {list' : List ℕ} → d ≡ decision a t i → Taken r d r' →
+        pub before-next : {d n' : ℕ} {r' : Running} {list' : List ℕ} → a i ≡ true → d ≡ decision a t i → Taken r (asChild d true) r' →
             Gathered a t i (i + s) n n' list list' → Before a t kind start end m old (i + s) r' n' list'
-        before-next ed k g =
-            on (k .reachable) g (over-more a t w (b .reachable) (b .ahead .whole) l (omega arith) ed k)
+        before-next h ed k g =
+            on (k .reachable) g (over-more a t w (b .reachable) (b .ahead .whole) l (omega arith) h ed k)
 
         -- the next child, where this one and all under it do not apply
         pub before-skipped : ((m : ℕ) → i ≤ m → m < endOf t i → a m ≡ false) → Before a t kind start end m old (i + s) r n list

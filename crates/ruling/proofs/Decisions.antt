@@ -7,10 +7,10 @@ use Prim.Native.Nat.{ℕ, _+_, _≤_, _<_}
 use native.Mathlib.Omega.{arith}
 use borrow.Author.Tests.{le-leb, lt-leb, leb-false}
 use lib.Dec.{eqb, lit<}
-use Rattle.combining.specs.Ways.{notApplicable, permit, deny, Child, way}
+use Rattle.combining.specs.Ways.{notApplicable, permit, deny, Child, asChild, absent, way}
 use Rattle.combining.specs.Running.{soFar, Reachable, Started, Takes, Taken}
 use Rattle.combining.specs.declared.Running.{Running}
-use Rattle.combining.proofs.Fold.{pair, not-applicable-first, not-applicable-next, Heard, none, more, way-below}
+use Rattle.combining.proofs.Fold.{pair, absent-first, absent-next, OneOfFour, none, more, way-below}
 use Rattle.table.specs.Layout.{kind}
 use Rattle.table.specs.Tree.{endOf, isRule}
 use Rattle.table.specs.WellFormed.{WellFormed}
@@ -18,17 +18,12 @@ use Rattle.ruling.specs.Forest.{Forest, empty, node, run, under}
 use Rattle.ruling.specs.Meaning.{effect, gives, childOf, children, decision}
 use Rattle.ruling.specs.Walk.{SpansInside}
 use Rattle.ruling.proofs.Forest.{run-none, run-more}
-use Rattle.ruling.proofs.LevelByLevel.{Lists}
 
 choice-below : (b : Bool) (x y : ℕ) → (b ≡ true → x < 4) → (b ≡ false → y < 4) → cond b x y < 4
 choice-below true x y hx hy = hx refl
 choice-below false x y hx hy = hy refl
 
 module _ (a : ℕ → Bool) (t : List ℕ) where
-  -- nodes on one level as children go by what each gives
-  pub children-list : Lists (children a t) (λ i cs. childOf a i (gives a t i cs))
-  children-list = record { none = refl; more = λ i u v. refl }
-
   -- what a node gives, by whether it applies and by its kind
 
   pub gives-not : (i : ℕ) (cs : List Child) → a i ≡ false → gives a t i cs ≡ notApplicable
@@ -49,7 +44,7 @@ module _ (a : ℕ → Bool) (t : List ℕ) where
 
   -- each is one of the four decisions
 
-  gives-below : (i : ℕ) (cs : List Child) → Heard cs → gives a t i cs < 4
+  gives-below : (i : ℕ) (cs : List Child) → OneOfFour cs → gives a t i cs < 4
   unfolding gives
   gives-below i cs h =
       choice-below (a i) (cond (isRule t i) (effect (kind t i)) (way (kind t i) cs)) notApplicable
@@ -58,16 +53,24 @@ module _ (a : ℕ → Bool) (t : List ℕ) where
       (λ e. way-below (kind t i) cs (leb-false 4 (kind t i) e) h))
       (λ _. lit< tt)
 
-  children-heard : (u : Forest) → Heard (children a t u)
-  children-heard empty = none
-  children-heard (node i u v) = more (gives-below i (children a t u) (children-heard u)) (children-heard v)
+  children-below : (u : Forest) → OneOfFour (children a t u)
+  children-below empty = none
+  children-below (node i u v) = more (gives-below i (children a t u) (children-below u)) (children-below v)
 
   pub decision-below : (i : ℕ) → decision a t i < 4
-  decision-below i = gives-below i (children a t (under t i)) (children-heard (under t i))
+  decision-below i = gives-below i (children a t (under t i)) (children-below (under t i))
 
   -- a node's decision can be taken in
-  pub takes : (i : ℕ) {d : ℕ} {r : Running} → Reachable r → d ≡ decision a t i → Takes r d
+  pub takes : (i : ℕ) {d : ℕ} {counts : Bool} {r : Running} → Reachable r → d ≡ decision a t i → Takes r (asChild d counts)
   takes i h e = record { reachable = h; one-of-four = rw e (decision-below i) }
+
+  -- as a child: it counts where it applies, and is as if absent where it does not
+
+  child-counts : (i d : ℕ) → a i ≡ true → childOf a i d ≡ asChild d true
+  child-counts i d e = simp e
+
+  child-absent : (i : ℕ) → a i ≡ false → childOf a i notApplicable ≡ absent
+  child-absent i e = simp e
 
   -- the decision of a node, as the code finds it
 
@@ -87,8 +90,11 @@ module _ (a : ℕ → Bool) (t : List ℕ) where
 
   -- before the first node
   pub over-start : {k : ℕ} {r : Running} (i end : ℕ) → Started k r → way k (children a t (run t i end)) ≡ over r i end
-  over-start {k} i end s =
-      rw (s .none, s .same-kind) (sym (not-applicable-first k (children a t (run t i end)) (omega (arith, s .reachable .group, s .same-kind))))
+  over-start {k} {r} i end s =
+      let cs = children a t (run t i end) in
+      sym (absent-first k cs (omega (arith, s .reachable .group, s .same-kind)))
+      ∙ ap (λ m. way m (absent ∷ cs)) (sym (s .same-kind))
+      ∙ ap (λ c. way (r .kind) (c ∷ cs)) (sym (s .none))
 
   module _ (w : WellFormed t) {r : Running} (h : Reachable r) where
     -- no node is left
@@ -100,15 +106,20 @@ module _ (a : ℕ → Bool) (t : List ℕ) where
       first : {d : ℕ} → d ≡ decision a t i → over r i end ≡ way (r .kind) (soFar r ∷ childOf a i d ∷ children a t (run t next end))
       first e = rw (run-more t w i end o l, en, e)
 
-      -- the first child is taken in
-      pub over-more : {d : ℕ} {r' : Running} → d ≡ decision a t i → Taken r d r' → over r i end ≡ over r' next end
-      over-more {d} e k =
+      -- the first child applies, and is taken in
+      pub over-more : {d : ℕ} {r' : Running} → a i ≡ true → d ≡ decision a t i → Taken r (asChild d true) r' → over r i end ≡ over r' next end
+      over-more {d} {r'} ha e k =
+          let cs = children a t (run t next end) in
           first e
-          ∙ sym
-          (rw (k .combined, k .same-kind)
-          (pair (children a t (run t next end)) (r .kind) (r .decision) d (h .group) (h .one-of-four) (rw e (decision-below i))))
+          ∙ ap (λ c. way (r .kind) (soFar r ∷ c ∷ cs)) (child-counts i d ha)
+          ∙ sym (pair cs (r .kind) (soFar r) (asChild d true) (h .group) (h .one-of-four) (rw e (decision-below i)))
+          ∙ sym (ap (λ c. way (r .kind) (c ∷ cs)) (k .combined))
+          ∙ sym (ap (λ m. way m (soFar r' ∷ cs)) (k .same-kind))
 
       -- the first child does not apply, and changes nothing
       pub over-skip : a i ≡ false → over r i end ≡ over r next end
       over-skip e =
-          first (ruled-not i e) ∙ not-applicable-next (r .kind) (r .decision) (children a t (run t next end)) (h .group) (h .one-of-four)
+          let cs = children a t (run t next end) in
+          first (ruled-not i e)
+          ∙ ap (λ c. way (r .kind) (soFar r ∷ c ∷ cs)) (child-absent i e)
+          ∙ absent-next (r .kind) (soFar r) cs (h .group)

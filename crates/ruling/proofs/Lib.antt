@@ -1,6 +1,5 @@
 -- What the proofs of several functions use, and the theorems about ruling.
 pub mod Forest
-pub mod LevelByLevel
 pub mod FieldByField
 pub mod SubjectsInRange
 pub mod Throughout

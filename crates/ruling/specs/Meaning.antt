@@ -9,7 +9,7 @@ use lib.Dec.{eqb}
 use Rattle.answer.specs.Below.{countBelow}
 use Rattle.answer.specs.Rulings.{Ruling}
 use Rattle.combining.specs.Kinds.{permitRuleKind}
-use Rattle.combining.specs.Ways.{notApplicable, permit, deny, Child, heard, way}
+use Rattle.combining.specs.Ways.{notApplicable, permit, deny, Child, asChild, way}
 use Rattle.table.specs.Layout.{count, kind, card}
 use Rattle.table.specs.Tree.{isRule}
 use Rattle.ruling.specs.Forest.{Forest, empty, node, under}
@@ -23,9 +23,10 @@ effect kind = cond (eqb kind permitRuleKind) permit deny
 unfoldable pub gives : (ℕ → Bool) → List ℕ → ℕ → List Child → ℕ
 gives a t i cs = cond (a i) (cond (isRule t i) (effect (kind t i)) (way (kind t i) cs)) notApplicable
 
--- node i as a child, where it gives d: "if exactly one child gives something", whichever nodes apply
+-- paper 2, "a group child counts when its target holds, though no card in it matches. A rule child counts when it matches.", "For a party, a child
+-- counts when it holds for the party.": node i as a child, where it gives d
 abbrev pub childOf : (ℕ → Bool) → ℕ → ℕ → Child
-childOf a i d = heard d
+childOf a i d = asChild d (a i)
 
 -- "a child that is a group asks its own in turn": nodes on one level as children, in order
 abbrev pub children : (ℕ → Bool) → List ℕ → Forest → List Child

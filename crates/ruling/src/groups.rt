@@ -4,6 +4,7 @@ use answer::OTHERS;
 use combining::Decision;
 use combining::Kind;
 use combining::Running;
+use combining::Ways;
 use table::layout::card_at;
 use table::layout::count_at;
 use table::layout::kind_at;
@@ -13,6 +14,7 @@ ghost use Prim.Native.Nat.{_+_, _<_};
 ghost use lib.ListN.{length, set};
 ghost use lib.Seq.{sets};
 ghost use Rattle.combining.specs.Ways.{way};
+ghost use Rattle.combining.specs.Table.{Combines};
 ghost use Rattle.table.specs.Layout.{card, NodeHeld};
 ghost use Rattle.table.specs.WellFormed.{WellFormed};
 ghost use Rattle.ruling.specs.Forest.{run};
@@ -63,6 +65,7 @@ fn rule_match(table: &[u8], i: usize, kind: u8, cards: &mut [u16], count: usize)
 // count on, as far as the list reaches, and counted.
 pub(crate) fn rule_node(
     table: &[u8],
+    ways: &Ways,
     members: u64,
     others: &[u16; OTHERS],
     i: usize,
@@ -70,7 +73,7 @@ pub(crate) fn rule_node(
     cards: &mut [u16],
     count: usize,
 ) -> Ruled
-    requires { ⌜ WellFormed (now table) ⌝ }
+    requires { ⌜ WellFormed (now table) × Combines (now ways) ⌝ }
     requires { ⌜ Node (appliesToSome (now table) members (now others)) (now table) i end count ⌝ }
     requires { ⌜ AppliesToEach (now table) members (now others) i ⌝ }
     ensures { λ r. ⌜ r .decision ≡ decision (appliesToSome (now (table .entry)) members (now (others .entry))) (now (table .entry)) i ⌝ }
@@ -80,6 +83,7 @@ pub(crate) fn rule_node(
     match kind {
         Kind::FIRST_APPLICABLE..=Kind::DENY_OVERRIDES => rule_run(
             table,
+            ways,
             members,
             others,
             kind,
@@ -94,9 +98,10 @@ pub(crate) fn rule_node(
 
 // Rules the children of a group of a kind, the nodes from first up to end, each with those under it, for members for which every
 // target above them holds, where there were so many cards before: the running decision takes in one child after another. A child
-// whose target holds for no member changes nothing, and is stepped over by its span.
+// whose target holds for a member counts; any other changes nothing, and is stepped over by its span.
 fn rule_run(
     table: &[u8],
+    ways: &Ways,
     members: u64,
     others: &[u16; OTHERS],
     kind: u8,
@@ -105,7 +110,7 @@ fn rule_run(
     cards: &mut [u16],
     before: usize,
 ) -> Ruled
-    requires { ⌜ WellFormed (now table) ⌝ }
+    requires { ⌜ WellFormed (now table) × Combines (now ways) ⌝ }
     requires { ⌜ ChildRun (now table) first end before × (kind < 4) ⌝ }
     requires { ⌜ MembersPass (now table) members (now others) first ⌝ }
     ensures { λ r. ⌜ r .decision ≡ way kind (children (appliesToSome (now (table .entry)) members (now (others .entry))) (now (table .entry)) (run (now (table .entry)) first end)) ⌝ }
@@ -118,8 +123,8 @@ fn rule_run(
         let next = i + span_at(table, i);
         let left = members_left(table, members, others, i);
         if left != 0 {
-            let child = rule_node(table, left, others, i, next, cards, count);
-            running = running.take(child.decision);
+            let child = rule_node(table, ways, left, others, i, next, cards, count);
+            running = running.take(ways, child.decision, true);
             count = child.count;
         }
         i = next;
@@ -152,7 +157,8 @@ pub(crate) fn rule_read(
     let kind = kind_at(table, 0);
     match kind {
         Kind::FIRST_APPLICABLE..=Kind::DENY_OVERRIDES => {
-            rule_run(table, left, others, kind, 1, count, cards, 0)
+            let ways = Running::ways();
+            rule_run(table, &ways, left, others, kind, 1, count, cards, 0)
         }
         _ => rule_match(table, 0, kind, cards, 0),
     }

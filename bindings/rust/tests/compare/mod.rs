@@ -13,7 +13,7 @@ const MARK: u16 = 0xA5A5;
 const AROUND: usize = 4;
 
 /// How many tests compare, and how many comparisons all of them make at least.
-const TESTS: usize = 15;
+const TESTS: usize = 16;
 const COMPARISONS: u64 = 500_000_000;
 
 /// What the tests that ended did.
@@ -36,6 +36,8 @@ pub struct Compare {
     /// How often each number, 0 or a refusal's, and each decision was due.
     numbers: [u64; 14],
     decisions: [u64; 4],
+    /// How often indeterminate was due with no card, and with one.
+    silent: [u64; 2],
     /// How often sets of each size were ruled on, and sets with each subject.
     sizes: [u64; 1 + MOST_SUBJECTS as usize],
     members: [u64; MOST_SUBJECTS as usize],
@@ -49,6 +51,7 @@ impl Compare {
             comparisons: 0,
             numbers: [0; 14],
             decisions: [0; 4],
+            silent: [0; 2],
             sizes: [0; 1 + MOST_SUBJECTS as usize],
             members: [0; MOST_SUBJECTS as usize],
         }
@@ -164,6 +167,13 @@ impl Compare {
         assert!(enough, "{}: decisions {:?}", self.test, self.decisions);
     }
 
+    /// Sees that indeterminate was due so often with no card, and so often with one: a table gives this only where a
+    /// group counts in which no rule matches.
+    pub fn silent_groups(&self, often: u64) {
+        let enough = self.silent.iter().all(|&times| times >= often);
+        assert!(enough, "{}: silent groups {:?}", self.test, self.silent);
+    }
+
     /// Sees that there were so many comparisons, and that each of these numbers, 0 or a refusal's, was due so often.
     pub fn end(self, comparisons: u64, numbers: impl IntoIterator<Item = usize>, often: u64) {
         let test = self.test;
@@ -185,6 +195,9 @@ impl Compare {
 
     fn ruled(&mut self, answer: Result<(Decision, usize), Refusal>, due: &Due) {
         self.decisions[usize::from(due.decision)] += u64::from(due.number == 0);
+        if due.decision == 3 && due.count < 2 {
+            self.silent[due.count] += 1;
+        }
         self.refused(answer.err(), due);
         let given = answer.map_or((0, 0), |(given, count)| (decision(given), count));
         self.same("decision", given.0, due.decision);

@@ -8,6 +8,12 @@ const MAY: u8 = 1;
 const NOT: u8 = 2;
 const UNCLEAR: u8 = 3;
 
+/// A child of a group: what it gives, and whether it counts under "only one".
+struct Child {
+    decision: u8,
+    counts: bool,
+}
+
 impl Table {
     /// What the groups give a set, or refusal 13 or 9.
     pub fn rule(&self, joint: &Joint) -> Result<Ruled, Refused> {
@@ -62,14 +68,23 @@ impl Table {
         }
         let node = &self.nodes[place];
         let children = node.children.iter();
-        let given = children.map(|&child| self.decision(child, applies));
+        let children = children.map(|&child| self.child(child, applies));
         match node.kind {
-            0 => first(given.collect()),
-            1 => only_one(given.collect()),
-            2 => may_beats(given.collect()),
-            3 => may_not_beats(given.collect()),
+            0 => first(decisions(children)),
+            1 => only_one(children.collect()),
+            2 => may_beats(decisions(children)),
+            3 => may_not_beats(decisions(children)),
             4 => MAY,
             _ => NOT,
+        }
+    }
+
+    /// "a group child counts when its target holds, though no card in it matches. A rule child counts when it
+    /// matches." "For a party, a child counts when it holds for the party."
+    fn child(&self, place: usize, applies: &[bool]) -> Child {
+        Child {
+            decision: self.decision(place, applies),
+            counts: applies[place],
         }
     }
 }
@@ -82,15 +97,20 @@ fn holds(node: &Node, values: Values) -> bool {
     })
 }
 
+fn decisions(children: impl Iterator<Item = Child>) -> Vec<u8> {
+    children.map(|child| child.decision).collect()
+}
+
 fn first(given: Vec<u8>) -> u8 {
     given.into_iter().find(|&d| d != NONE).unwrap_or(NONE)
 }
 
-fn only_one(mut given: Vec<u8>) -> u8 {
-    given.retain(|&d| d != NONE);
-    match given[..] {
+/// "None counted gives none, two or more give unclear, one gives its own decision."
+fn only_one(mut children: Vec<Child>) -> u8 {
+    children.retain(|child| child.counts);
+    match &children[..] {
         [] => NONE,
-        [one] => one,
+        [one] => one.decision,
         _ => UNCLEAR,
     }
 }

@@ -14,8 +14,17 @@ pub enum Moves {
 /// None where there is nothing to change. After it the table may be as it was, or refused.
 pub type Change = fn(&mut Random, &mut Outline) -> Option<()>;
 
-pub const CHANGES: [(&str, Moves, Change); 14] = [
-    ("an empty group added", Moves::Never, add_group),
+pub const CHANGES: [(&str, Moves, Change); 16] = [
+    (
+        "an empty group added to an only-one group",
+        Moves::Sometimes,
+        |random, outline| add_group(random, outline, true),
+    ),
+    (
+        "an empty group added elsewhere",
+        Moves::Never,
+        |random, outline| add_group(random, outline, false),
+    ),
     ("a node put in a group of its own", Moves::Sometimes, wrap),
     ("a group dissolved", Moves::Sometimes, dissolve),
     ("a group split", Moves::Sometimes, split),
@@ -27,9 +36,14 @@ pub const CHANGES: [(&str, Moves, Change); 14] = [
         lift,
     ),
     (
-        "a group narrowed to what is under it",
+        "a group in an only-one group narrowed to what is under it",
+        Moves::Sometimes,
+        |random, outline| surround(random, outline, true),
+    ),
+    (
+        "another group narrowed to what is under it",
         Moves::Never,
-        surround,
+        |random, outline| surround(random, outline, false),
     ),
     ("a range widened to all values", Moves::Sometimes, widen),
     ("another card", Moves::Sometimes, other_card),
@@ -61,8 +75,14 @@ fn any_group_kind(random: &mut Random) -> u8 {
     random.of(&[0, 1, 2, 3])
 }
 
-/// Anywhere under the root, on any level that leaves all other nodes under the same parents.
-fn add_group(random: &mut Random, outline: &mut Outline) -> Option<()> {
+/// Whether a group counts where nothing in it matches: it is in an only-one group.
+fn counts_silent(outline: &Outline, group: usize) -> bool {
+    group > 0 && outline.parent(group).kind == 1
+}
+
+/// Anywhere under the root, on any level that leaves all other nodes under the same parents; where the new group
+/// counts, or where it does not.
+fn add_group(random: &mut Random, outline: &mut Outline, counts: bool) -> Option<()> {
     let place = 1 + random.below(outline.nodes.len());
     let before = outline.nodes[place - 1];
     let deepest = before.level + usize::from(before.is_group());
@@ -72,7 +92,7 @@ fn add_group(random: &mut Random, outline: &mut Outline) -> Option<()> {
     }
     let level = highest + random.below(deepest + 1 - highest);
     outline.insert_group(place, level, any_group_kind(random));
-    Some(())
+    (counts_silent(outline, place) == counts).then_some(())
 }
 
 /// For a group the new one is a may-not-beats group, which turns unclear to not.
@@ -163,9 +183,12 @@ fn lift(random: &mut Random, outline: &mut Outline) -> Option<()> {
     Some(())
 }
 
-/// From the lowest to the highest value of those under it, within its own.
-fn surround(random: &mut Random, outline: &mut Outline) -> Option<()> {
-    let group = pick_group(random, outline)?;
+/// From the lowest to the highest value of those under it, within its own: a group that counts where nothing in it
+/// matches, or one that does not.
+fn surround(random: &mut Random, outline: &mut Outline, counts: bool) -> Option<()> {
+    let is_one =
+        |node: usize| outline.nodes[node].is_group() && counts_silent(outline, node) == counts;
+    let group = pick(random, outline, is_one)?;
     let under = group + 1..group + outline.span(group);
     for field in 0..FIELDS {
         let ranges = outline.nodes[under.clone()].iter();

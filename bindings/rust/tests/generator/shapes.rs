@@ -1,6 +1,6 @@
 //! Tables of a certain shape.
 
-use super::Outline;
+use super::{outline::Ranges, Outline};
 use crate::evaluator::FIELDS;
 
 /// A group over rules that match every request, so many nodes in all.
@@ -48,16 +48,65 @@ pub fn nested() -> Outline {
     outline
 }
 
-/// A group of a kind over only-one groups, which give subject 1 these decisions, and subject 0 none.
-pub fn decisions(kind: u8, given: &[u8]) -> Outline {
-    let mut outline = Outline::new([1, 0, 0]);
+/// Of a group over a rule to permit and a rule to deny: whether the group applies, and whether each rule does.
+pub type Child = [bool; 3];
+
+/// What a child can be to its group: none that does not count, none that counts, permit, deny, and indeterminate.
+pub const CHILDREN: [Child; 5] = [
+    [false, false, false],
+    [true, false, false],
+    [true, true, false],
+    [true, false, true],
+    [true, true, true],
+];
+
+/// A group of a kind over only-one groups, which are these children to subject 1, and in the reverse order to subject
+/// 0. What is for neither is for subject 2. Where rules may stand alone, a child that a rule can be is no group.
+pub fn children(kind: u8, given: &[Child], alone: bool) -> Outline {
+    let mut outline = Outline::new([2, 0, 0]);
     outline.add(1, kind, 0, outline.all());
-    for (card, decision) in (1..).step_by(2).zip(given) {
-        outline.add(2, 1, 0, outline.all());
-        // a rule to permit and one to deny, of which those match that make the decision
-        let [permit, deny] = [decision % 2, decision / 2];
-        outline.add(3, 4, card, [(permit, permit), (0, 0), (0, 0)]);
-        outline.add(3, 5, card + 1, [(deny, deny), (0, 0), (0, 0)]);
+    let pairs = given.iter().rev().zip(given);
+    for (card, (zero, one)) in (1..).step_by(2).zip(pairs) {
+        let [group, permit, deny] = [0, 1, 2].map(|part| of_two(zero[part], one[part]));
+        let nobody = of_two(false, false);
+        if alone && group == permit && deny == nobody {
+            outline.add(2, 4, card, permit);
+        } else if alone && group == deny && permit == nobody {
+            outline.add(2, 5, card, deny);
+        } else {
+            outline.add(2, 1, 0, group);
+            outline.add(3, 4, card, permit);
+            outline.add(3, 5, card + 1, deny);
+        }
+    }
+    outline
+}
+
+/// For subject 0, for subject 1, for both, or for subject 2.
+fn of_two(zero: bool, one: bool) -> Ranges {
+    let subjects = match [zero, one] {
+        [true, true] => (0, 1),
+        [true, false] => (0, 0),
+        [false, true] => (1, 1),
+        [false, false] => (2, 2),
+    };
+    [subjects, (0, 0), (0, 0)]
+}
+
+/// An only-one group over a group for each of some subjects, and then a rule to permit for each of others, with cards
+/// from 1 on. The groups are empty, or have a rule for subject 2.
+pub fn silent_groups(groups: &[u8], rules: &[u8], empty: bool) -> Outline {
+    let mut outline = Outline::new([2, 0, 0]);
+    let only = |subject| [(subject, subject), (0, 0), (0, 0)];
+    outline.add(1, 1, 0, outline.all());
+    for &subject in groups {
+        outline.add(2, 0, 0, only(subject));
+        if !empty {
+            outline.add(3, 4, 99, only(2));
+        }
+    }
+    for (card, &subject) in (1..).zip(rules) {
+        outline.add(2, 4, card, only(subject));
     }
     outline
 }

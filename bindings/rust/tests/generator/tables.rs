@@ -70,7 +70,8 @@ fn grown(random: &mut Random, maxima: Maxima, nodes: usize, levels: usize) -> Ou
         outline: Outline::new(maxima),
         levels,
         parting: random.below(4),
-        seldom: random.of(&[1, 2, 4, 8]),
+        groups_seldom: random.of(&[1, 2, 4, 8]),
+        rules_seldom: random.of(&[1, 2, 4, 8]),
         random,
     };
     growth.grow(nodes, 1);
@@ -81,9 +82,10 @@ struct Growth<'a> {
     outline: Outline,
     /// At least 2.
     levels: usize,
-    /// How groups part the nodes under them, and how seldom a range is narrow.
+    /// How groups part the nodes under them, and how seldom a range of a group, and of a rule, is narrow.
     parting: usize,
-    seldom: usize,
+    groups_seldom: usize,
+    rules_seldom: usize,
     random: &'a mut Random,
 }
 
@@ -91,12 +93,13 @@ impl Growth<'_> {
     /// Adds a node on a level and all under it: so many nodes.
     fn grow(&mut self, nodes: usize, level: usize) {
         let group = nodes > 1 || self.random.one_in(8);
-        let (kind, card) = if group {
-            (self.random.of(&[0, 1, 1, 2, 3]), 0)
+        let (kind, card, seldom) = if group {
+            (self.random.of(&[0, 1, 1, 2, 3]), 0, self.groups_seldom)
         } else {
-            (self.random.of(&[4, 5]), self.card())
+            (self.random.of(&[4, 5]), self.card(), self.rules_seldom)
         };
-        let ranges = self.outline.maxima.map(|most| self.range(most));
+        let ranges = self.outline.maxima;
+        let ranges = ranges.map(|most| self.range(most, seldom));
         self.outline.add(level, kind, card, ranges);
         let mut left = nodes - 1;
         while left > 0 {
@@ -121,8 +124,8 @@ impl Growth<'_> {
         card as u16
     }
 
-    fn range(&mut self, most: u8) -> (u8, u8) {
-        if !self.random.one_in(self.seldom) {
+    fn range(&mut self, most: u8, seldom: usize) -> (u8, u8) {
+        if !self.random.one_in(seldom) {
             return (0, most);
         }
         let mut end = || {

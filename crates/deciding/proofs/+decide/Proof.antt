@@ -1,12 +1,16 @@
 -- `deciding::decide` meets its contract: a group's running decision takes in its children of the set, one after another. They stand later.
 -- Assumes nothing.
-use mathlib.Core.Path.{refl}
-use Prim.Native.Nat.{_-_, ℕ, _<_}
+use mathlib.Core.Path.{_≡_, refl}
+use mathlib.Core.Bool.{Bool, true}
+use mathlib.Core.List.{List}
+use Prim.Native.Nat.{ℕ, _+_, _-_, _≤_, _<_}
 use native.Mathlib.Omega.{arith}
 use borrow.Fn.Kinds.{In}
 use borrow.Fn.PlainCycle.{Measures, is, falls, and}
 use Rattle.combining.proofs.Running.start.Reads as start-reads
 use Rattle.combining.proofs.Running.take.Reads as take-reads
+use Rattle.table.specs.Layout.{count}
+use Rattle.table.specs.WellFormed.{WellFormed}
 use Rattle.table.proofs.layout.kind_at.Reads as kind-at-reads
 use Rattle.table.proofs.layout.span_at.Reads as span-at-reads
 use Rattle.ruling.proofs.Steps.{held}
@@ -14,6 +18,7 @@ use Rattle.ruling.proofs.Decisions.{takes, ruled-rule}
 use Rattle.ruling.proofs.groups.effect_of.Reads as effect-of-reads
 use Rattle.sets.specs.Sets.{most, has}
 use Rattle.sets.proofs.Set.next.Reads as next-reads
+use Rattle.deciding.specs.Closed.{Closed}
 use Rattle.deciding.proofs.MemberByMember.{Before, before-first, before-child, before-next, before-end, next-within}
 use Rattle.deciding.proofs.decide.Reads as decide
 use Rattle.deciding.proofs.decide.Kinds as decide-kinds
@@ -21,14 +26,14 @@ use Rattle.deciding.proofs.+decide.Lts-decide as decide-lts
 use Rattle.deciding.proofs.+decide.{statement}
 use Rattle.deciding.proofs.+decide.Tie.{close}
 
-abbrev μ-decide : Measures 1 decide-kinds.ps ℕ
-μ-decide κs a = most - a .1 .1 .0
+abbrev μ-decide : Measures 2 decide-kinds.ps ℕ
+μ-decide κs a = most - a .1 .1 .1 .0
 
-abbrev decide-at : ℕ → In 1 decide-kinds.ps
-decide-at t = and 1 decide-kinds.ps (is 1 decide-kinds.ps μ-decide t) decide.Pre
+abbrev decide-at : ℕ → In 2 decide-kinds.ps
+decide-at t = and 2 decide-kinds.ps (is 2 decide-kinds.ps μ-decide t) decide.Pre
 
-abbrev decide-below : ℕ → In 1 decide-kinds.ps
-decide-below t = and 1 decide-kinds.ps (falls 1 decide-kinds.ps _<_ μ-decide t) decide.Pre
+abbrev decide-below : ℕ → In 2 decide-kinds.ps
+decide-below t = and 2 decide-kinds.ps (falls 2 decide-kinds.ps _<_ μ-decide t) decide.Pre
 
 abbrev decide-claims : ℕ → decide-lts.Claims
 decide-claims t = (
@@ -49,83 +54,145 @@ decide-claims t = (
 )
 
 abbrev decide-Inv-loop : decide-lts.InvT-loop
-decide-Inv-loop table applying i kind end running₀ child₀ running child =
+decide-Inv-loop table ways applying i kind end running₀ child₀ running child =
     Before (has applying) table i end child running
 
 abbrev decide-μ-loop : decide-lts.MeasureT-loop
-decide-μ-loop table applying i kind end running₀ child₀ running child = most - child
+decide-μ-loop table ways applying i kind end running₀ child₀ running child = most - child
+
+-- what decide is given
+
+abbrev Start : ℕ → Type 0
+Start t = decide-lts.Start (decide-claims t) (decide-at t) decide.Post decide-Inv-loop decide-μ-loop
+
+module _ {t : ℕ} (c : Start t) where
+  abbrev nodes : List ℕ
+  nodes = c .args .table .now
+
+  abbrev applies : ℕ → Bool
+  applies = has (c .args .applying)
+
+  well-formed : WellFormed nodes
+  well-formed = c .pre .1 .0 .0
+
+  closed : Closed nodes applies
+  closed = c .pre .1 .1 .0
+
+  given : (c .args .i < count nodes) × (applies (c .args .i) ≡ true)
+  given = c .pre .1 .1 .1
+
+-- once the node's kind is known
+
+abbrev Known : ℕ → Type 0
+Known t = decide-lts.After-kind-at (decide-claims t) (decide-at t) decide.Post decide-Inv-loop decide-μ-loop
+
+abbrev known-start : {t : ℕ} → Known t → Start t
+known-start c = c .before .before
+
+-- at a child
+
+abbrev Loop : ℕ → Type 0
+Loop t = decide-lts.In-loop (decide-claims t) (decide-at t) decide.Post decide-Inv-loop decide-μ-loop
+
+module _ {t : ℕ} (c : Loop t) where
+  abbrev start : Start t
+  start = c .before .before .before .before .before .before .before .before
+
+  abbrev child : ℕ
+  child = c .before .loop .child
+
+  child-given : (child < count (nodes start)) × (applies start child ≡ true)
+  child-given = before-child (well-formed start) (closed start) (c .before .loop .inv) (c .loop-test .taken)
+
+-- once the child was taken in, and its span is known
+
+abbrev Spanned : ℕ → Type 0
+Spanned t = decide-lts.After-span-at2 (decide-claims t) (decide-at t) decide.Post decide-Inv-loop decide-μ-loop
+
+module _ {t : ℕ} (c : Spanned t) where
+  abbrev loop : Loop t
+  loop = c .before .before .before
+
+  next-inside : child loop + c .span-at2 .result ≤ most
+  next-inside =
+      next-within (well-formed (start loop)) (closed (start loop)) (loop .before .loop .inv) (loop .loop-test .taken) (c .span-at2 .ensures .0)
 
 decide-kind-at-requires : (t : ℕ) → decide-lts.Need-kind-at-requires (decide-claims t) (decide-at t) decide.Post decide-Inv-loop decide-μ-loop
-decide-kind-at-requires t c κs = held (c .before .args .table .now) (c .before .pre .1 .0) (c .before .args .i) (c .before .pre .1 .1 .1 .0)
+decide-kind-at-requires t c κs = let s = c .before in held (nodes s) (well-formed s) (s .args .i) (given s .0)
 
 decide-effect-of-requires : (t : ℕ) → decide-lts.Need-effect-of-requires (decide-claims t) (decide-at t) decide.Post decide-Inv-loop decide-μ-loop
 decide-effect-of-requires t c κs = tt
 
 decide-returns : (t : ℕ) → decide-lts.Need-returns (decide-claims t) (decide-at t) decide.Post decide-Inv-loop decide-μ-loop
 decide-returns t c =
-    let s = c .before .before .before .before .args in
-    ruled-rule (has (s .applying)) (s .table .now) (s .i) (c .before .before .kind-at .result) (c .effect-of .result) (c .before .before .before .before .pre .1 .1 .1 .1) (c .before .before .kind-at .ensures) (c .before .if1 .taken) (c .effect-of .ensures)
+    let k = c .before .before in
+    let s = known-start k in
+    ruled-rule (applies s) (nodes s) (s .args .i) (k .kind-at .result) (c .effect-of .result) (given s .1) (k .kind-at .ensures) (c .before .if1 .taken)
+    (c .effect-of .ensures)
 
 decide-span-at-requires : (t : ℕ) → decide-lts.Need-span-at-requires (decide-claims t) (decide-at t) decide.Post decide-Inv-loop decide-μ-loop
-decide-span-at-requires t c κs = held (c .before .before .before .args .table .now) (c .before .before .before .pre .1 .0) (c .before .before .before .args .i) (c .before .before .before .pre .1 .1 .1 .0)
+decide-span-at-requires t c κs = let s = known-start (c .before) in held (nodes s) (well-formed s) (s .args .i) (given s .0)
 
 decide-add-end : (t : ℕ) → decide-lts.Need-add-end (decide-claims t) (decide-at t) decide.Post decide-Inv-loop decide-μ-loop
-decide-add-end t c = omega (arith, c .before .before .before .before .pre .1 .0 .few)
+decide-add-end t c = omega (arith, well-formed (known-start (c .before .before)) .few)
 
 decide-start-requires : (t : ℕ) → decide-lts.Need-start-requires (decide-claims t) (decide-at t) decide.Post decide-Inv-loop decide-μ-loop
 decide-start-requires t c κs = c .before .if1 .left
 
 decide-add-next : (t : ℕ) → decide-lts.Need-add-next (decide-claims t) (decide-at t) decide.Post decide-Inv-loop decide-μ-loop
-decide-add-next t c = omega (arith, c .before .before .before .before .before .pre .1 .0 .few)
+decide-add-next t c =
+    let s = known-start (c .before .before .before) in omega (arith, given s .0, well-formed s .few)
 
 decide-next-requires : (t : ℕ) → decide-lts.Need-next-requires (decide-claims t) (decide-at t) decide.Post decide-Inv-loop decide-μ-loop
-decide-next-requires t c κs = omega (arith, c .before .before .before .before .before .pre .1 .0 .few)
+decide-next-requires t c κs =
+    let s = known-start (c .before .before .before) in omega (arith, given s .0, well-formed s .few)
 
 decide-loop-holds : (t : ℕ) → decide-lts.Need-loop-holds (decide-claims t) (decide-at t) decide.Post decide-Inv-loop decide-μ-loop
 decide-loop-holds t c =
-    let p = c .before .before .before .before .before .before .pre .1 in
-    before-first (p .0) (p .1 .0) (p .1 .1) (c .before .before .before .before .kind-at .ensures) (c .before .before .before .if1 .left) (c .before .before .span-at .ensures .0) refl (c .before .start .ensures) (c .next .ensures)
+    let spanned = c .before .before in
+    let k = spanned .before .before in
+    let s = known-start k in
+    before-first (well-formed s) (closed s) (given s) (k .kind-at .ensures) (spanned .before .if1 .left) (spanned .span-at .ensures .0) refl
+    (c .before .start .ensures) (c .next .ensures)
 
 decide-decide-requires : (t : ℕ) → decide-lts.Need-decide-requires (decide-claims t) (decide-at t) decide.Post decide-Inv-loop decide-μ-loop
 decide-decide-requires t c κs =
-    let p = c .before .before .before .before .before .before .before .before .pre in
-    let h = before-child (p .1 .0) (p .1 .1 .0) (c .before .loop .inv) (c .loop-test .taken) in
-    (omega (arith, c .before .loop .inv .later, h .0, p .1 .0 .few, p .0), (p .1 .0, (p .1 .1 .0, h)))
+    let s = start c in
+    (omega (arith, c .before .loop .inv .later, child-given c .0, well-formed s .few, s .pre .0), (s .pre .1 .0, (closed s, child-given c)))
 
 decide-take-requires : (t : ℕ) → decide-lts.Need-take-requires (decide-claims t) (decide-at t) decide.Post decide-Inv-loop decide-μ-loop
 decide-take-requires t c κs =
-    let s = c .before .before .before .before .before .before .before .before .before .args in
-    let l = c .before .before .loop in
-    takes (has (s .applying)) (s .table .now) (l .child) (l .inv .reachable) (c .decide .ensures)
+    let l = c .before in
+    let s = start l in
+    (s .pre .1 .0 .1, takes (applies s) (nodes s) (child l) (l .before .loop .inv .reachable) (c .decide .ensures))
 
 decide-span-at-requires-2 : (t : ℕ) → decide-lts.Need-span-at-requires-2 (decide-claims t) (decide-at t) decide.Post decide-Inv-loop decide-μ-loop
 decide-span-at-requires-2 t c κs =
-    let p = c .before .before .before .before .before .before .before .before .before .before .pre .1 in
-    held (c .before .before .before .before .before .before .before .before .before .before .args .table .now) (p .0) (c .before .before .before .loop .child) (before-child (p .0) (p .1 .0) (c .before .before .before .loop .inv) (c .before .before .loop-test .taken) .0)
+    let l = c .before .before in held (nodes (start l)) (well-formed (start l)) (child l) (child-given l .0)
 
 decide-add-next-2 : (t : ℕ) → decide-lts.Need-add-next-2 (decide-claims t) (decide-at t) decide.Post decide-Inv-loop decide-μ-loop
-decide-add-next-2 t c =
-    let p = c .before .before .before .before .before .before .before .before .before .before .before .pre .1 in
-    omega (arith, next-within (p .0) (p .1 .0) (c .before .before .before .before .loop .inv) (c .before .before .before .loop-test .taken) (c .span-at2 .ensures .0))
+decide-add-next-2 t c = omega (arith, next-inside c)
 
 decide-next-requires-2 : (t : ℕ) → decide-lts.Need-next-requires-2 (decide-claims t) (decide-at t) decide.Post decide-Inv-loop decide-μ-loop
-decide-next-requires-2 t c κs =
-    let p = c .before .before .before .before .before .before .before .before .before .before .before .pre .1 in
-    next-within (p .0) (p .1 .0) (c .before .before .before .before .loop .inv) (c .before .before .before .loop-test .taken) (c .span-at2 .ensures .0)
+decide-next-requires-2 t c κs = next-inside c
 
 decide-loop-less : (t : ℕ) → decide-lts.Need-loop-less (decide-claims t) (decide-at t) decide.Post decide-Inv-loop decide-μ-loop
 decide-loop-less t c =
-    let p = c .before .before .before .before .before .before .before .before .before .before .before .before .pre .1 in
-    let l = before-child (p .0) (p .1 .0) (c .before .before .before .before .before .loop .inv) (c .before .before .before .before .loop-test .taken) .0 in
-    omega (arith, c .next2 .ensures .from, c .before .span-at2 .ensures .0, p .0 .spans (c .before .before .before .before .before .loop .child) l, l, p .0 .few)
+    let l = loop (c .before) in
+    let w = well-formed (start l) in
+    omega (arith, c .next2 .ensures .from, c .before .span-at2 .ensures .0, w .spans (child l) (child-given l .0), child-given l .0, w .few)
 
 decide-loop-again : (t : ℕ) → decide-lts.Need-loop-again (decide-claims t) (decide-at t) decide.Post decide-Inv-loop decide-μ-loop
 decide-loop-again t c =
-    let p = c .before .before .before .before .before .before .before .before .before .before .before .before .pre .1 in
-    before-next (p .0) (p .1 .0) (c .before .before .before .before .before .loop .inv) (c .before .before .before .before .loop-test .taken) (c .before .before .before .decide .ensures) (c .before .before .take .ensures) (c .before .span-at2 .ensures .0) (c .next2 .ensures)
+    let l = loop (c .before) in
+    let taken = c .before .before in
+    before-next (well-formed (start l)) (closed (start l)) (l .before .loop .inv) (l .loop-test .taken) (taken .before .decide .ensures)
+    (taken .take .ensures) (c .before .span-at2 .ensures .0) (c .next2 .ensures)
 
 decide-returns-2 : (t : ℕ) → decide-lts.Need-returns-2 (decide-claims t) (decide-at t) decide.Post decide-Inv-loop decide-μ-loop
-decide-returns-2 t c = before-end (c .before .before .before .before .before .before .before .before .pre .1 .0) (c .before .before .before .before .before .before .before .before .pre .1 .1 .0) (c .before .loop .inv) (c .loop-test .left)
+decide-returns-2 t c =
+    let s : Start t = c .before .before .before .before .before .before .before .before in
+    before-end (well-formed s) (closed s) (c .before .loop .inv) (c .loop-test .left)
 
 pub +decide-spec : {M : Type 1} → statement M
 +decide-spec = close μ-decide λ t. decide-lts.spec (decide-claims t)

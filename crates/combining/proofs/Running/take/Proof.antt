@@ -1,19 +1,38 @@
--- `combining::Running::take` meets its contract: the entry of the table is the step, which the group's way gives of it alone.
+-- `combining::Running::take` meets its contract: the table's entry is the step, which the group's way gives of it alone.
 -- Assumes nothing.
-use mathlib.Core.Path.{refl}
+use mathlib.Core.Path.{refl, ap, _∙_}
+use mathlib.Core.Bool.{_||_}
 use mathlib.Core.List.{[]}
+use lib.ListN.{getD}
 use borrow.Author.Needs.{needs}
-use Rattle.combining.proofs.Fold.{pair}
+use Rattle.combining.specs.Ways.{asChild}
+use Rattle.combining.specs.Running.{soFar}
+use Rattle.combining.proofs.Fold.{pair, step-below}
 use Rattle.combining.proofs.Running.take.Statement.{statement}
 use Rattle.combining.proofs.Running.take.Tie as tie
 
 returns : tie.Need-returns
 returns c =
-    let s = c .before .before .args in
-    let h = c .before .before .pre in
-    let e = c .combined .ensures in
-    let alone = pair [] (s .self .kind) (s .self .decision) (s .child) (h .reachable .group) (h .reachable .one-of-four) (h .one-of-four) in
-    record { same-kind = refl; combined = e .0; reachable = record { group = h .reachable .group; one-of-four = e .1; alone = rw (e .0) alone } }
+    let start = c .before .before .before .before in
+    let s = start .args in
+    let h = start .pre .1 in
+    let x = asChild (s .decision) (s .counts) in
+    let k = s .self .kind in
+    let at = ap (λ b. getD (getD (getD (s .ways .now) b []) (s .self .decision) []) (s .decision) 0) (c .before .before .before .block-of .ensures .0) in
+    let e = at ∙ start .pre .0 .each (s .self) x h in
+    record {
+      same-kind = refl;
+      combined = ap (λ d. asChild d (s .self .counted || s .counts)) e;
+      reachable = record {
+        group = h .reachable .group;
+        one-of-four = rw e (step-below k (soFar (s .self)) x (h .reachable .group) (h .reachable .one-of-four) (h .one-of-four));
+        alone = rw e (pair [] k (soFar (s .self)) x (h .reachable .group) (h .reachable .one-of-four) (h .one-of-four));
+      };
+    }
 
 pub take-spec : {M : Type 1} → statement M
-take-spec = tie.close (tie.spec (λ c. search needs) (λ c κs. search needs) returns)
+take-spec =
+    tie.close
+    (tie.spec
+    (λ c κs. search needs) (λ c. search needs) (λ c. search needs) (λ c. search needs) (λ c. search needs) (λ c. search needs) (λ c. search needs)
+    returns)

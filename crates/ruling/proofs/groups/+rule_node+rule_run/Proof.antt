@@ -1,8 +1,8 @@
 -- `ruling::groups::rule_node` and `rule_run`, which call each other, meet their contracts: the nodes left up to the end fall. Before each child
 -- those before it were taken in.
 -- Assumes nothing.
-use mathlib.Core.Path.{_≡_}
-use mathlib.Core.Bool.{Bool}
+use mathlib.Core.Path.{_≡_, _∙_}
+use mathlib.Core.Bool.{Bool, true}
 use mathlib.Core.List.{List}
 use Prim.Native.Nat.{ℕ, _+_, _-_, _*_, _≤_, _<_}
 use native.Mathlib.Omega.{arith}
@@ -35,25 +35,25 @@ use Rattle.ruling.proofs.targets.members_left.Reads as members-left-rea
 use Rattle.ruling.proofs.groups.+rule_node+rule_run.{statement}
 use Rattle.ruling.proofs.groups.+rule_node+rule_run.Tie.{close}
 
-abbrev μ-rule-node : Measures 3 rule-node-kinds.ps ℕ
-μ-rule-node κs a = 2 * (a .1 .1 .1 .1 .0 - a .1 .1 .1 .0)
+abbrev μ-rule-node : Measures 4 rule-node-kinds.ps ℕ
+μ-rule-node κs a = 2 * (a .1 .1 .1 .1 .1 .0 - a .1 .1 .1 .1 .0)
 
-abbrev μ-rule-run : Measures 3 rule-run-kinds.ps ℕ
-μ-rule-run κs a = 2 * (a .1 .1 .1 .1 .1 .0 - a .1 .1 .1 .1 .0) + 1
+abbrev μ-rule-run : Measures 4 rule-run-kinds.ps ℕ
+μ-rule-run κs a = 2 * (a .1 .1 .1 .1 .1 .1 .0 - a .1 .1 .1 .1 .1 .0) + 1
 
-abbrev rule-node-at : ℕ → In 3 rule-node-kinds.ps
-rule-node-at t = and 3 rule-node-kinds.ps (is 3 rule-node-kinds.ps μ-rule-node t) rule-node.Pre
+abbrev rule-node-at : ℕ → In 4 rule-node-kinds.ps
+rule-node-at t = and 4 rule-node-kinds.ps (is 4 rule-node-kinds.ps μ-rule-node t) rule-node.Pre
 
-abbrev rule-node-below : ℕ → In 3 rule-node-kinds.ps
+abbrev rule-node-below : ℕ → In 4 rule-node-kinds.ps
 rule-node-below t =
-    and 3 rule-node-kinds.ps (falls 3 rule-node-kinds.ps _<_ μ-rule-node t) rule-node.Pre
+    and 4 rule-node-kinds.ps (falls 4 rule-node-kinds.ps _<_ μ-rule-node t) rule-node.Pre
 
-abbrev rule-run-at : ℕ → In 3 rule-run-kinds.ps
-rule-run-at t = and 3 rule-run-kinds.ps (is 3 rule-run-kinds.ps μ-rule-run t) rule-run.Pre
+abbrev rule-run-at : ℕ → In 4 rule-run-kinds.ps
+rule-run-at t = and 4 rule-run-kinds.ps (is 4 rule-run-kinds.ps μ-rule-run t) rule-run.Pre
 
-abbrev rule-run-below : ℕ → In 3 rule-run-kinds.ps
+abbrev rule-run-below : ℕ → In 4 rule-run-kinds.ps
 rule-run-below t =
-    and 3 rule-run-kinds.ps (falls 3 rule-run-kinds.ps _<_ μ-rule-run t) rule-run.Pre
+    and 4 rule-run-kinds.ps (falls 4 rule-run-kinds.ps _<_ μ-rule-run t) rule-run.Pre
 
 abbrev rule-node-claims : ℕ → rule-node-lts.Claims
 rule-node-claims t = (
@@ -92,7 +92,7 @@ module _ {t : ℕ} (c : NodeStart t) where
   node-applies = appliesToSome node-table (c .args .members) (c .args .others .now)
 
   node-well-formed : WellFormed node-table
-  node-well-formed = c .pre .1 .0
+  node-well-formed = c .pre .1 .0 .0
 
   node-given : Node node-applies node-table (c .args .i) (c .args .end) (c .args .count)
   node-given = c .pre .1 .1 .0
@@ -114,7 +114,7 @@ rule-node-rule-run-requires t c κs =
     let n = node-given s in (
       omega (arith, w .spans (s .args .i) (n .some), n .ends, s .pre .0),
       (
-        w,
+        s .pre .1 .0,
         (
           (children (node-applies s) (node-table s) w (s .args .i) (s .args .end) (s .args .count) n, omega (arith, c .before .if1 .taken)),
           members-down (node-table s) (s .args .others .now) (s .args .members) (s .args .i) (s .pre .1 .1 .1),
@@ -150,11 +150,11 @@ rule-node-returns-2 t c =
     (x .ensures .0 .0) (x .ensures .0 .1) (x .ensures .1)
 
 abbrev rule-run-Inv-loop : rule-run-lts.InvT-loop
-rule-run-Inv-loop table members others kind first end cards₀ before running₀ count₀ i₀ cards running count i =
+rule-run-Inv-loop table ways members others kind first end cards₀ before running₀ count₀ i₀ cards running count i =
     Before (appliesToSome table members others) table kind first end before cards₀ i running count cards × MembersPass table members others i
 
 abbrev rule-run-μ-loop : rule-run-lts.MeasureT-loop
-rule-run-μ-loop table members others kind first end cards₀ before running₀ count₀ i₀ cards running count i = end - i
+rule-run-μ-loop table ways members others kind first end cards₀ before running₀ count₀ i₀ cards running count i = end - i
 
 -- what rule_run is given
 
@@ -172,7 +172,7 @@ module _ {t : ℕ} (c : RunStart t) where
   run-applies = appliesToSome run-table (c .args .members) run-others
 
   run-well-formed : WellFormed run-table
-  run-well-formed = c .pre .1 .0
+  run-well-formed = c .pre .1 .0 .0
 
 -- at a child
 
@@ -221,6 +221,11 @@ module _ {t : ℕ} (c : RunLeft t) where
       left-each (run-table start-left) (run-others start-left) (start-left .args .members) left (child run-loop) (c .members-left .ensures)
       (child-spans run-loop) (run-loop .before .loop .inv .1)
 
+  left-some : 0 < left → left-applies-to (child run-loop) ≡ true
+  left-some l =
+      left-applies (run-table start-left) (run-others start-left) (start-left .args .members) left (child run-loop) (c .members-left .ensures)
+      (omega arith) l left-applying
+
   -- under the child the two sets are alike
   alike : (j : ℕ) → child run-loop ≤ j → j < endOf (run-table start-left) (child run-loop) → run-applies start-left j ≡ left-applies-to j
   alike = left-same (run-table start-left) (run-others start-left) (start-left .args .members) left (child run-loop) (c .members-left .ensures)
@@ -244,7 +249,7 @@ rule-run-start-requires t c κs = omega (arith, c .before .before .pre .1 .1 .0 
 rule-run-loop-holds : (t : ℕ) → rule-run-lts.Need-loop-holds (rule-run-claims t) (rule-run-at t) rule-run.Post rule-run-Inv-loop rule-run-μ-loop
 rule-run-loop-holds t c =
     let p = c .before .before .before .pre .1 in
-    (before-first (p .0) (p .1 .0 .0) (c .start .ensures), p .1 .1)
+    (before-first (p .0 .0) (p .1 .0 .0) (c .start .ensures), p .1 .1)
 
 rule-run-span-at-requires : (t : ℕ) → rule-run-lts.Need-span-at-requires (rule-run-claims t) (rule-run-at t) rule-run.Post rule-run-Inv-loop rule-run-μ-loop
 rule-run-span-at-requires t c κs = child-held c
@@ -268,12 +273,10 @@ rule-run-rule-node-requires t c κs =
     let b = l .before .loop .inv .0 in (
       omega (arith, before-within w b (l .loop-test .taken), b .later, spanned m, s .pre .0),
       (
-        w,
+        s .pre .1 .0,
         (
           first (left-applies-to m) (run-table s) w (child l) (s .args .end) _ _ (l .loop-test .taken) (omega (arith, spanned m))
-              (left-applies (run-table s) (run-others s) (s .args .members) (left m) (child l) (m .members-left .ensures) (omega arith)
-              (omega (arith, c .before .if1 .taken)) (left-applying m))
-              (b .ahead),
+              (left-some m (omega (arith, c .before .if1 .taken))) (b .ahead),
           left-applying m,
         ),
       ),
@@ -283,8 +286,10 @@ rule-run-take-requires : (t : ℕ) → rule-run-lts.Need-take-requires (rule-run
 rule-run-take-requires t c κs =
     let x = c .before .before in
     let m = x .before .before .before in
-    let l = run-loop m in
-    takes (left-applies-to m) (run-table (start-left m)) (child l) (l .before .loop .inv .0 .reachable) (x .rule-node .ensures .0)
+    let l = run-loop m in (
+      start-left m .pre .1 .0 .1,
+      takes (left-applies-to m) (run-table (start-left m)) (child l) (l .before .loop .inv .0 .reachable) (x .rule-node .ensures .0),
+    )
 
 rule-run-loop-less : (t : ℕ) → rule-run-lts.Need-loop-less (rule-run-claims t) (rule-run-at t) rule-run.Post rule-run-Inv-loop rule-run-μ-loop
 rule-run-loop-less t c =
@@ -298,10 +303,11 @@ rule-run-loop-again t c =
     let l = run-loop m in
     let s = start-left m in
     let w = run-well-formed s in
+    let h = alike m (child l) (omega arith) (omega (arith, child-spans l)) ∙ left-some m (omega (arith, x .before .before .if1 .taken)) in
     let r =
     ruled-same (run-applies s) (left-applies-to m) (run-table s) w (within-table m) (alike m) (omega arith) (omega (arith, child-spans l, spanned m))
     (omega (arith, spanned m)) (omega (arith, spanned m)) (x .rule-node .ensures) in
-    (before-next w (l .before .loop .inv .0) (l .loop-test .taken) (spanned m) (r .0) (c .take .ensures) (r .1), passed-on m)
+    (before-next w (l .before .loop .inv .0) (l .loop-test .taken) (spanned m) h (r .0) (c .take .ensures) (r .1), passed-on m)
 
 rule-run-loop-less-2 : (t : ℕ) → rule-run-lts.Need-loop-less-2 (rule-run-claims t) (rule-run-at t) rule-run.Post rule-run-Inv-loop rule-run-μ-loop
 rule-run-loop-less-2 t c =
@@ -321,7 +327,7 @@ rule-run-same-length : (t : ℕ) → rule-run-lts.Need-same-length (rule-run-cla
 rule-run-same-length t c = gathered-length (c .before .loop .inv .0 .stored)
 
 rule-run-returns : (t : ℕ) → rule-run-lts.Need-returns (rule-run-claims t) (rule-run-at t) rule-run.Post rule-run-Inv-loop rule-run-μ-loop
-rule-run-returns t c = before-end (c .before .before .before .before .before .pre .1 .0) (c .before .loop .inv .0) (c .loop-test .left)
+rule-run-returns t c = before-end (c .before .before .before .before .before .pre .1 .0 .0) (c .before .loop .inv .0) (c .loop-test .left)
 
 pub +rule-node+rule-run-spec : {M : Type 1} → statement M
 +rule-node+rule-run-spec = close μ-rule-node μ-rule-run (λ t. rule-node-lts.spec (rule-node-claims t)

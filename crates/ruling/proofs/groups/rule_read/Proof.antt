@@ -110,11 +110,12 @@ module _ (c : tie.After-kind-at) where
 
 rule-run-requires : tie.Need-rule-run-requires
 rule-run-requires c κs =
-    let k = c .before .before in
+    let made = c .before .before in
+    let k = made .before .before in
     let s = start (known k) in (
-      w k,
+      (w k, made .ways .ensures),
       (
-        (children (b (known k)) (t k) (w k) 0 (end k) 0 (node k), omega (arith, c .before .if2 .taken)),
+        (children (b (known k)) (t k) (w k) 0 (end k) 0 (node k), omega (arith, made .before .if2 .taken)),
         members-down (t k) (others s) (left (known k)) 0 (each (known k)),
       ),
     )
@@ -122,7 +123,7 @@ rule-run-requires c κs =
 returns-2 : tie.Need-returns-2
 returns-2 c =
     let x = c .before .before .rule-run in
-    let g = c .before .before .before .before in
+    let g = c .before .before .before .before .before .before in
     let k = g .before in
     whole k
     (by-group (b (known k)) (t k) (w k) (node k) (k .kind-at .ensures) (omega (arith, g .if2 .taken)) (x .ensures .0) (x .ensures .1))
@@ -142,5 +143,5 @@ pub rule-read-spec : {M : Type 1} → statement M
 rule-read-spec =
     tie.close
     (tie.spec
-    members-left-requires returns count-at-requires kind-at-requires rule-run-requires rule-match-requires (λ c. search needs) returns-2
+    members-left-requires returns count-at-requires kind-at-requires (λ c κs. search needs) rule-run-requires rule-match-requires (λ c. search needs) returns-2
     (λ c. search needs) returns-3)
