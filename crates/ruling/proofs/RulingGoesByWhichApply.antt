@@ -42,7 +42,9 @@ module _ (a b : ℕ → Bool) (t : List ℕ) (w : WellFormed t) where
       by false y = gives-not a t i cs (e ∙ y) ∙ sym (gives-not b t i ds y)
 
   child-same : (i : ℕ) (cs ds : List Child) → a i ≡ b i → (b i ≡ true → cs ≡ ds) → childOf a i (gives a t i cs) ≡ childOf b i (gives b t i ds)
-  child-same i cs ds e h = ap (asChild (gives a t i cs)) e ∙ ap (λ d. asChild d (b i)) (gives-same i cs ds e h)
+  child-same i cs ds e h =
+      let counts : childOf a i (gives a t i cs) ≡ childOf b i (gives a t i cs) = simp e in
+      counts ∙ ap (childOf b i) (gives-same i cs ds e h)
 
   module _ {P : ℕ → Type 0} {to : ℕ} (inside : to ≤ count t) (g : Agree P to) where
     children-same : (n i end : ℕ) → P i → end ≤ to → SpansInside t i end → children a t (forestWithin n t i end) ≡ children b t (forestWithin n t i end)
