@@ -21,6 +21,7 @@ using Numbers = std::vector<uint16_t>;
 using Sizes = std::array<unsigned, 3>;
 
 // The calls that are compared, by pointer: none is inlined where it is timed.
+using Read = decltype(&kolfsein_read);
 using Rule = decltype(&kolfsein_rule);
 using LookUp = decltype(&kolfsein_look_up);
 using Build = decltype(&kolfsein_build);
@@ -97,7 +98,12 @@ inline Table part_ranges(unsigned nodes, const Sizes &sizes, unsigned parts, uin
             tables::Generator({nodes, sizes, {parts, parts, parts}, seed}).nested()};
 }
 
-// All rules under one root.
+// The same of the convention profile, with any ranges.
+inline Table any_standard(unsigned nodes, const Sizes &sizes) {
+    return {"nested, any", tables::Generator({nodes, sizes, sizes, 1}).nested_standard()};
+}
+
+// All rules under one root, which the convention profile accepts too.
 inline Table flat(unsigned nodes, const Sizes &sizes) {
     return {"flat, any", tables::Generator({nodes, sizes, sizes, 1}).flat()};
 }

@@ -16,6 +16,7 @@ struct Section {
 
 const Section SECTIONS[] = {
     {"rule", rule_section},
+    {"standard", standard_section},
     {"build", build_section},
     {"growth", growth_section},
     {"look-up", look_up_section},
@@ -35,7 +36,7 @@ bool known(const char *name) {
 int main(int count, char **arguments) {
     for (int i = 1; i < count; ++i) {
         if (!known(arguments[i])) {
-            fail(std::string("no section ") + arguments[i] + "; there are rule, build, growth, look-up");
+            fail(std::string("no section ") + arguments[i] + "; there are rule, standard, build, growth, look-up");
         }
     }
     for (const Section &section : SECTIONS) {

@@ -2,6 +2,7 @@
 #pragma once
 
 void rule_section();
+void standard_section();
 void build_section();
 void growth_section();
 void look_up_section();

@@ -55,6 +55,13 @@ public:
         return std::move(bytes_);
     }
 
+    // The same of the convention profile: a group holds rules alone or groups alone, and an only-one group no rule.
+    Bytes nested_standard() {
+        header();
+        grow_standard(shape_.nodes, 1, whole());
+        return std::move(bytes_);
+    }
+
     // One group of rules.
     Bytes flat() {
         header();
@@ -125,6 +132,28 @@ private:
                 child = 2 + random_.below(left - 1 < 24 ? left - 1 : 24);
             }
             grow(child, level + 1, narrowed(ranges));
+            left -= child;
+        }
+    }
+
+    // A group with all under it, span nodes in all: rules where they are few or on level 8, else groups.
+    void grow_standard(unsigned span, unsigned level, const Ranges &ranges) {
+        unsigned left = span - 1;
+        if (left < 4 || level == 7) {
+            static constexpr unsigned KINDS[] = {0, 2, 3};
+            record(KINDS[random_.below(3)], span, 0, ranges);
+            for (; left > 0; --left) {
+                record(4 + random_.below(2), 1, ++cards_, narrowed(ranges));
+            }
+            return;
+        }
+        record(random_.below(4), span, 0, ranges);
+        while (left > 0) {
+            unsigned child = 2 + random_.below(left - 1 < 24 ? left - 1 : 24);
+            if (left - child == 1) {
+                ++child;  // no empty group
+            }
+            grow_standard(child, level + 1, narrowed(ranges));
             left -= child;
         }
     }

@@ -1,8 +1,9 @@
 #!/usr/bin/env python3
-"""Writes two rule tables beside this script, the same bytes each time.
+"""Writes three rule tables beside this script, the same bytes each time.
 
-harbour.table   the small rulebook T of the requirements, 63 bytes
-rulebook.table  a rulebook of a whole game: 12 characters, 20 places, 10 deeds
+harbour.table           the small rulebook T of the requirements, 63 bytes
+harbour-standard.table  the same by the convention profile: its two rules beside a group have a group of their own
+rulebook.table          a rulebook of a whole game: 12 characters, 20 places, 10 deeds
 
 A group is one of the four combining ways over a list of groups and cards. A card is permit(number, ..) or
 deny(number, ..). Each names the characters, places and deeds that it is for, as "thief" or "smuggler..thief"; what is
@@ -13,6 +14,16 @@ from pathlib import Path
 HARBOUR = """
 00 3D 01 02 01 01 00 05
 03 00 05 00 00 00 02 00 01 00 01
+04 00 01 00 0A 00 02 00 01 00 00
+05 00 01 00 14 02 02 00 00 00 00
+00 00 02 00 00 01 01 00 01 01 01
+04 00 01 00 1E 00 02 01 01 00 01
+"""
+
+HARBOUR_STANDARD = """
+00 48 01 02 01 01 00 06
+03 00 06 00 00 00 02 00 01 00 01
+03 00 03 00 00 00 02 00 01 00 01
 04 00 01 00 0A 00 02 00 01 00 00
 05 00 01 00 14 02 02 00 00 00 00
 00 00 02 00 00 01 01 00 01 01 01
@@ -230,4 +241,5 @@ def table(tree):
 if __name__ == "__main__":
     here = Path(__file__).parent
     (here / "harbour.table").write_bytes(bytes.fromhex(HARBOUR))
+    (here / "harbour-standard.table").write_bytes(bytes.fromhex(HARBOUR_STANDARD))
     (here / "rulebook.table").write_bytes(table(RULEBOOK))

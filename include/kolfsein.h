@@ -1,6 +1,7 @@
 /*
  * Kolfsein, a verified policy engine: reading a table of rules, ruling by its groups on one subject or on several that
- * ask together, building its decision diagram, and ruling by a diagram.
+ * ask together, both also by the convention profile, whose tables are XACML 2.0 as printed, building its decision
+ * diagram, and ruling by a diagram.
  * For C99 and C++. Link libkolfsein.a, which itself needs only C's memcpy and memset. The repository's docs/FORMAT.md
  * describes the formats.
  *
@@ -8,6 +9,8 @@
  * - kolfsein_rule where the table is at hand, for one subject or for several that ask together. It reads the table
  *   itself, and needs no kolfsein_read before it.
  * - kolfsein_read to see whether a table is accepted, and which node is at fault where it is not.
+ * - kolfsein_rule_standard and kolfsein_read_standard in place of these two where a table is to be XACML 2.0 as
+ *   printed: they refuse what this library allows beyond it, and on all other tables they answer as those two do.
  * - kolfsein_build to see whether two tables rule alike on every subject alone, or to hand on these rulings in place of
  *   the table.
  * - kolfsein_look_up where a diagram is at hand and no table, for one subject. Each call checks the whole diagram, so
@@ -40,22 +43,27 @@ enum {
 
 /* kolfsein_answer.number: 0, or what is refused. A table's nodes are numbered from 0, the root. */
 enum {
-    KOLFSEIN_OK = 0,              /* nothing is refused; place 0 */
-    KOLFSEIN_LENGTH = 1,          /* under 8 bytes, or the length isn't bytes 0-1 plus 2; place 0 */
-    KOLFSEIN_VERSION = 2,         /* the version isn't 1; place 0 */
-    KOLFSEIN_NODE_COUNT = 3,      /* 0 or over 128 nodes, or the length isn't 8 + 11 x nodes; place 0 */
-    KOLFSEIN_KIND = 4,            /* a kind over 5; place: the node */
-    KOLFSEIN_SPAN = 5,            /* a span of 0, of a rule not 1, of the root not the number of nodes,
-                                     or past its parent's end; place: the node */
-    KOLFSEIN_LEVEL = 6,           /* level 9 or deeper; place: the node */
-    KOLFSEIN_RANGE = 7,           /* a low over its high, or a high over the maximum; place: the node */
-    KOLFSEIN_CARD = 8,            /* a rule with card 0, or a group with another card; place: the node */
-    KOLFSEIN_VALUE = 9,           /* a value over its field's maximum; place: the first such field,
-                                     0 subject (of kolfsein_look_up only), 1 resource, 2 action */
-    KOLFSEIN_LIST_TOO_SHORT = 10, /* the list is shorter than the cards; place 0 */
-    KOLFSEIN_ROOM = 11,           /* the built diagram needs over 32,768 places or more than lent; place 0 */
-    KOLFSEIN_DIAGRAM = 12,        /* the diagram isn't sound; place 0 */
-    KOLFSEIN_SUBJECTS = 13        /* the set of subjects is empty, or has one over the subjects' maximum; place 0 */
+    KOLFSEIN_OK = 0,                /* nothing is refused; place 0 */
+    KOLFSEIN_LENGTH = 1,            /* under 8 bytes, or the length isn't bytes 0-1 plus 2; place 0 */
+    KOLFSEIN_VERSION = 2,           /* the version isn't 1; place 0 */
+    KOLFSEIN_NODE_COUNT = 3,        /* 0 or over 128 nodes, or the length isn't 8 + 11 x nodes; place 0 */
+    KOLFSEIN_KIND = 4,              /* a kind over 5; place: the node */
+    KOLFSEIN_SPAN = 5,              /* a span of 0, of a rule not 1, of the root not the number of nodes,
+                                       or past its parent's end; place: the node */
+    KOLFSEIN_LEVEL = 6,             /* level 9 or deeper; place: the node */
+    KOLFSEIN_RANGE = 7,             /* a low over its high, or a high over the maximum; place: the node */
+    KOLFSEIN_CARD = 8,              /* a rule with card 0, or a group with another card; place: the node */
+    KOLFSEIN_VALUE = 9,             /* a value over its field's maximum; place: the first such field,
+                                       0 subject (of kolfsein_look_up only), 1 resource, 2 action */
+    KOLFSEIN_LIST_TOO_SHORT = 10,   /* the list is shorter than the cards; place 0 */
+    KOLFSEIN_ROOM = 11,             /* the built diagram needs over 32,768 places or more than lent; place 0 */
+    KOLFSEIN_DIAGRAM = 12,          /* the diagram isn't sound; place 0 */
+    KOLFSEIN_SUBJECTS = 13,         /* the set of subjects is empty, or has one over the subjects' maximum; place 0 */
+    KOLFSEIN_MIXED_GROUP = 14,      /* by the profile: a group holds rules and groups;
+                                       place: the lowest such group's node */
+    KOLFSEIN_RULE_IN_ONLY_ONE = 15, /* by the profile: an only-one-applicable group holds a rule;
+                                       place: the lowest such group's node */
+    KOLFSEIN_RULE_AS_ROOT = 16      /* by the profile: the root is a rule; place 0 */
 };
 
 /* No ruling has more cards than this: a list of so many places is never too short. */
@@ -69,7 +77,7 @@ enum { KOLFSEIN_MOST_PLACES = 32768 };
 
 /*
  * What a call hands back. In a refusal the decision and the count are 0. The subjects are how many members the set has
- * that kolfsein_rule ruled on, and 0 in every other answer.
+ * that kolfsein_rule or kolfsein_rule_standard ruled on, and 0 in every other answer.
  */
 typedef struct kolfsein_answer {
     uint8_t number;
@@ -103,6 +111,27 @@ kolfsein_answer kolfsein_read(const uint8_t *table, size_t table_len);
 kolfsein_answer kolfsein_rule(const uint8_t *table, size_t table_len,
                               uint64_t subjects, uint16_t resource, uint16_t action,
                               uint16_t *cards, size_t cards_len);
+
+/*
+ * Reads a table by the convention profile, which accepts those that are XACML 2.0 as printed: the root is a group,
+ * every group holds rules alone, groups alone or nothing, and an only-one-applicable group holds no rule. What a group
+ * holds are its children, and not the nodes further down.
+ * Where the table is accepted, the answer is that of kolfsein_read, which accepts it too. Otherwise the first refusal
+ * in this order: those of kolfsein_read, then 14, then 15, then 16. Each is looked for in all nodes before the next, so
+ * that the place of 14 may be a later node than that of a 15 in the same table.
+ */
+kolfsein_answer kolfsein_read_standard(const uint8_t *table, size_t table_len);
+
+/*
+ * Rules by the convention profile: wherever kolfsein_read_standard accepts the table, the answer and the list are those
+ * of kolfsein_rule. There every group of rules combines by the rule-combining algorithm of its kind in XACML 2.0,
+ * appendix C, and every group of groups by the policy-combining one.
+ * Otherwise the first refusal in this order: those of kolfsein_read_standard, then 13, then 9 (place 1 or 2), then 10.
+ * The list is then all 0.
+ */
+kolfsein_answer kolfsein_rule_standard(const uint8_t *table, size_t table_len,
+                                       uint64_t subjects, uint16_t resource, uint16_t action,
+                                       uint16_t *cards, size_t cards_len);
 
 /*
  * Builds the decision diagram of a table into the places lent: number 0, place 0, decision 0, and as count the number

@@ -1,12 +1,77 @@
-// Reading, ruling and looking up in plain C++.
+// Reading, ruling, both also by the profile, and looking up in plain C++.
 #include "plain/plain.hpp"
 
 #include <cstring>
 
 namespace plain {
 
-// Reads a table: refusals 1 to 8, or the number of nodes.
-kolfsein_answer read(const uint8_t *table, size_t length) {
+namespace {
+
+// Whether a node is a rule.
+inline bool is_rule(const uint8_t *record) { return record[0] >= 4; }
+
+// What a reading without the profile keeps of the nodes: nothing.
+struct Plain {
+    explicit Plain(const uint8_t *) {}
+    void see(size_t, size_t, const uint8_t *, bool) {}
+    kolfsein_answer settled(const uint8_t *, size_t nodes) const { return {KOLFSEIN_OK, 0, 0, nodes, 0}; }
+};
+
+// What a reading by the profile keeps: whether the first child of the open group of each level is a rule, as all others
+// then have to be; whether some child is of another sort; and the lowest only-one group whose first child is a rule.
+struct Profile {
+    bool rules[LEVELS + 1];
+    bool mixed = false;
+    size_t only_one = MOST_NODES;
+
+    explicit Profile(const uint8_t *root) { rules[0] = is_rule(root); }
+
+    // A node under the open group of a level.
+    void see(size_t level, size_t node, const uint8_t *record, bool rule) {
+        mixed |= rules[level] != rule;
+        rules[level + 1] = word(record + 1) > 1 && is_rule(record + RECORD);
+        if (record[0] == 1 && rules[level + 1] && only_one == MOST_NODES) {
+            only_one = node;
+        }
+    }
+
+    kolfsein_answer settled(const uint8_t *table, size_t nodes) const {
+        if (mixed) {
+            return refused(KOLFSEIN_MIXED_GROUP, lowest_mixed(table));
+        }
+        if (only_one < MOST_NODES) {
+            return refused(KOLFSEIN_RULE_IN_ONLY_ONE, only_one);
+        }
+        if (rules[0]) {
+            return refused(KOLFSEIN_RULE_AS_ROOT, 0);
+        }
+        return {KOLFSEIN_OK, 0, 0, nodes, 0};
+    }
+
+    // The lowest mixed group, where there is one.
+    static size_t lowest_mixed(const uint8_t *table) {
+        size_t group = 0;
+        while (!is_mixed(table, group)) {
+            ++group;
+        }
+        return group;
+    }
+
+    static bool is_mixed(const uint8_t *table, size_t group) {
+        const uint8_t *first = table + HEADER + RECORD * (group + 1);
+        const size_t end = group + word(first - RECORD + 1);
+        for (size_t i = group + 1; i < end; i += word(table + HEADER + RECORD * i + 1)) {
+            if (is_rule(table + HEADER + RECORD * i) != is_rule(first)) {
+                return true;
+            }
+        }
+        return false;
+    }
+};
+
+// Reads a table: refusals 1 to 8, then those of what is kept of its nodes, or the number of nodes.
+template <class Kept>
+inline kolfsein_answer read_keeping(const uint8_t *table, size_t length) {
     if (length < HEADER || length != word(table) + 2) {
         return refused(KOLFSEIN_LENGTH, 0);
     }
@@ -20,6 +85,7 @@ kolfsein_answer read(const uint8_t *table, size_t length) {
     const uint8_t *maxima = table + 3;
     size_t ends[LEVELS + 1] = {nodes};  // where the open node of each level ends; level 0 is the table
     size_t depth = 0;
+    Kept kept(table + HEADER);
     for (size_t i = 0; i < nodes; ++i) {
         const uint8_t *record = table + HEADER + RECORD * i;
         const uint8_t kind = record[0];
@@ -29,7 +95,7 @@ kolfsein_answer read(const uint8_t *table, size_t length) {
         while (depth > 0 && ends[depth] <= i) {
             --depth;
         }
-        const bool rule = kind >= 4;
+        const bool rule = is_rule(record);
         const size_t span = word(record + 1);
         if (span == 0 || (rule && span != 1) || (i == 0 && span != nodes) || i + span > ends[depth]) {
             return refused(KOLFSEIN_SPAN, i);
@@ -47,10 +113,17 @@ kolfsein_answer read(const uint8_t *table, size_t length) {
         if (rule != (word(record + 3) != 0)) {
             return refused(KOLFSEIN_CARD, i);
         }
+        kept.see(depth, i, record, rule);
         ends[++depth] = i + span;
     }
-    return {KOLFSEIN_OK, 0, 0, nodes, 0};
+    return kept.settled(table, nodes);
 }
+
+}  // namespace
+
+kolfsein_answer read(const uint8_t *table, size_t length) { return read_keeping<Plain>(table, length); }
+
+kolfsein_answer read_standard(const uint8_t *table, size_t length) { return read_keeping<Profile>(table, length); }
 
 namespace {
 
@@ -71,16 +144,9 @@ size_t size_of(uint64_t subjects) {
     return subjects * 0x0101010101010101u >> 56;
 }
 
-}  // namespace
-
-// Rules on a set of subjects that ask together: the table is read at each call.
-kolfsein_answer rule(const uint8_t *table, size_t length, uint64_t subjects, uint16_t resource, uint16_t action,
-                     uint16_t *cards, size_t room) {
-    std::memset(cards, 0, room * sizeof *cards);
-    const kolfsein_answer reading = read(table, length);
-    if (reading.number != 0) {
-        return reading;
-    }
+// Rules on a set of subjects that ask together, by a table of so many nodes that was read, into a list that is all 0.
+inline kolfsein_answer ruled(const uint8_t *table, size_t nodes, uint64_t subjects, uint16_t resource, uint16_t action,
+                             uint16_t *cards, size_t room) {
     const uint8_t *maxima = table + 3;
     if (subjects == 0 || (maxima[0] < 63 && subjects >> (maxima[0] + 1) != 0)) {
         return refused(KOLFSEIN_SUBJECTS, 0);
@@ -99,7 +165,7 @@ kolfsein_answer rule(const uint8_t *table, size_t length, uint64_t subjects, uin
     };
     // The innermost open group, and those above it. The outermost stands for the table, and takes in the root's
     // decision.
-    Group group = {reading.count, subjects, 0, 0};
+    Group group = {nodes, subjects, 0, 0};
     Group above[LEVELS];
     size_t depth = 0;
     size_t count = 0;
@@ -142,6 +208,30 @@ kolfsein_answer rule(const uint8_t *table, size_t length, uint64_t subjects, uin
         return refused(KOLFSEIN_LIST_TOO_SHORT, 0);
     }
     return {KOLFSEIN_OK, group.running, 0, count, size_of(subjects)};
+}
+
+// Rules after the table was read in some way, at each call.
+template <class Read>
+inline kolfsein_answer rule_after(Read read, const uint8_t *table, size_t length, uint64_t subjects, uint16_t resource,
+                                  uint16_t action, uint16_t *cards, size_t room) {
+    std::memset(cards, 0, room * sizeof *cards);
+    const kolfsein_answer reading = read(table, length);
+    if (reading.number != 0) {
+        return reading;
+    }
+    return ruled(table, reading.count, subjects, resource, action, cards, room);
+}
+
+}  // namespace
+
+kolfsein_answer rule(const uint8_t *table, size_t length, uint64_t subjects, uint16_t resource, uint16_t action,
+                     uint16_t *cards, size_t room) {
+    return rule_after(read, table, length, subjects, resource, action, cards, room);
+}
+
+kolfsein_answer rule_standard(const uint8_t *table, size_t length, uint64_t subjects, uint16_t resource,
+                              uint16_t action, uint16_t *cards, size_t room) {
+    return rule_after(read_standard, table, length, subjects, resource, action, cards, room);
 }
 
 namespace {

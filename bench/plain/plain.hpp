@@ -44,6 +44,13 @@ kolfsein_answer read(const uint8_t *table, size_t table_len);
 kolfsein_answer rule(const uint8_t *table, size_t table_len, uint64_t subjects, uint16_t resource, uint16_t action,
                      uint16_t *cards, size_t cards_len);
 
+// As kolfsein_read_standard.
+kolfsein_answer read_standard(const uint8_t *table, size_t table_len);
+
+// As kolfsein_rule_standard: the table is read at each call.
+kolfsein_answer rule_standard(const uint8_t *table, size_t table_len, uint64_t subjects, uint16_t resource,
+                              uint16_t action, uint16_t *cards, size_t cards_len);
+
 // As kolfsein_look_up: the diagram is checked at each call.
 kolfsein_answer look_up(const uint16_t *diagram, size_t diagram_len, uint16_t subject, uint16_t resource,
                         uint16_t action, uint16_t *cards, size_t cards_len);

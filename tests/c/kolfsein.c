@@ -1,8 +1,8 @@
 /*
  * The interface as a C or a C++ program meets it, compiled from this one source as either: the header's names and
- * struct, the requirements' cases of table T, sets of subjects, groups that count and are silent, each refusal of each
- * call, null pointers of length 0, and what stands around what is lent. Other tables and diagrams are left to the tests
- * in Rust.
+ * struct, the requirements' cases of table T, sets of subjects, groups that count and are silent, the convention
+ * profile, each refusal of each call, null pointers of length 0, and what stands around what is lent. Other tables and
+ * diagrams are left to the tests in Rust.
  */
 #include "kolfsein.h" /* first, so that it needs nothing before it */
 
@@ -149,20 +149,32 @@ static struct asked_together alone(const struct asked *a) {
     return set;
 }
 
-static void reads(int line, struct table t, kolfsein_answer should) {
+/* A call that reads a table, and one that rules by it: the plain ones, or those of the convention profile. */
+typedef kolfsein_answer read_call(const uint8_t *, size_t);
+typedef kolfsein_answer rule_call(const uint8_t *, size_t, uint64_t, uint16_t, uint16_t, uint16_t *, size_t);
+
+static void reads_by(read_call *call, int line, struct table t, kolfsein_answer should) {
     const struct table was = t;
-    kolfsein_answer is = kolfsein_read(t.bytes, t.len);
+    kolfsein_answer is = call(t.bytes, t.len);
     same_answer(line, is, should);
     unchanged(line, t.bytes, was.bytes, sizeof t.bytes);
 }
 
-static void rules(struct table t, const struct asked_together *a) {
+static void reads(int line, struct table t, kolfsein_answer should) {
+    reads_by(kolfsein_read, line, t, should);
+}
+
+static void rules_by(rule_call *call, struct table t, const struct asked_together *a) {
     const struct table was = t;
     mark();
-    kolfsein_answer is = kolfsein_rule(t.bytes, t.len, a->subjects, a->resource, a->action, lent, a->list);
+    kolfsein_answer is = call(t.bytes, t.len, a->subjects, a->resource, a->action, lent, a->list);
     same_answer(a->line, is, a->should);
     holds(a->line, a->list, a->should.count, a->cards);
     unchanged(a->line, t.bytes, was.bytes, sizeof t.bytes);
+}
+
+static void rules(struct table t, const struct asked_together *a) {
+    rules_by(kolfsein_rule, t, a);
 }
 
 static void builds(int line, struct table t, size_t room, kolfsein_answer should, const uint16_t *numbers) {
@@ -206,6 +218,9 @@ static void names(void) {
     NAMED(KOLFSEIN_ROOM, 11);
     NAMED(KOLFSEIN_DIAGRAM, 12);
     NAMED(KOLFSEIN_SUBJECTS, 13);
+    NAMED(KOLFSEIN_MIXED_GROUP, 14);
+    NAMED(KOLFSEIN_RULE_IN_ONLY_ONE, 15);
+    NAMED(KOLFSEIN_RULE_AS_ROOT, 16);
     NAMED(KOLFSEIN_MOST_CARDS, 127);
     NAMED(KOLFSEIN_MOST_PLACES, 32768);
     NAMED(KOLFSEIN_SUBJECT(0), 1);
@@ -428,7 +443,94 @@ static void silent_groups(void) {
     rules(two_groups, &no_card);
 }
 
-/* A table that each call refuses, whether or not the set that is asked has a fault too. */
+/*
+ * T with its first two rules in a group of their own, so that it is a table of the convention profile; it rules as T
+ * does.
+ */
+static const struct table SORTED = {
+    {0, START(6) - 2, 1, 2, 1, 1, 0, 6,
+     3, 0, 6, 0, 0, 0, 2, 0, 1, 0, 1,
+     3, 0, 3, 0, 0, 0, 2, 0, 1, 0, 1,
+     4, 0, 1, 0, 10, 0, 2, 0, 1, 0, 0,
+     5, 0, 1, 0, 20, 2, 2, 0, 0, 0, 0,
+     0, 0, 2, 0, 0, 1, 1, 0, 1, 1, 1,
+     4, 0, 1, 0, 30, 0, 2, 1, 1, 0, 1},
+    START(6)};
+
+/* A table of the profile is read and ruled by as without it. */
+static void accepted_by_profile(void) {
+    static read_call *const read[] = {kolfsein_read, kolfsein_read_standard};
+    static rule_call *const rule[] = {kolfsein_rule, kolfsein_rule_standard};
+    static const kolfsein_answer six = {KOLFSEIN_OK, 0, 0, 6, 0};
+    for (size_t call = 0; call < COUNT(read); call++) {
+        reads_by(read[call], __LINE__, SORTED, six);
+        for (size_t i = 0; i < COUNT(OF_T); i++) {
+            const struct asked_together set = alone(&OF_T[i]);
+            rules_by(rule[call], SORTED, &set);
+        }
+        for (size_t i = 0; i < COUNT(OF_GROUPS); i++) {
+            rules_by(rule[call], SORTED, &OF_GROUPS[i]);
+        }
+    }
+}
+
+/* A table that the profile refuses, whatever else is at fault: the set, a value, or the list. */
+static void refuses_by_profile(int line, struct table t, uint8_t number, size_t place) {
+    const kolfsein_answer should = {number, 0, place, 0, 0};
+    const struct asked_together asked[] = {
+        {line, SMUGGLER, 0, 0, 3, should, {0, 0}},
+        {line, 0, 0, 0, 3, should, {0, 0}},
+        {line, SMUGGLER, 2, 2, 3, should, {0, 0}},
+        {line, SMUGGLER, 0, 0, 0, should, {0, 0}},
+    };
+    reads_by(kolfsein_read_standard, line, t, should);
+    for (size_t i = 0; i < COUNT(asked); i++) {
+        rules_by(kolfsein_rule_standard, t, &asked[i]);
+    }
+}
+
+/* The same of a table that is accepted without the profile, of so many nodes. */
+static void refuses_by_profile_alone(int line, struct table t, size_t nodes, uint8_t number, size_t place) {
+    const kolfsein_answer read = {KOLFSEIN_OK, 0, 0, nodes, 0};
+    reads(line, t, read);
+    refuses_by_profile(line, t, number, place);
+}
+
+/*
+ * An only-one-applicable group over a rule, at node 1, and beside it a group over a rule and a group, at node 3: 15 and
+ * 14, which comes first.
+ */
+static const struct table BOTH_FAULTS = {
+    {0, START(6) - 2, 1, 2, 1, 1, 0, 6,
+     3, 0, 6, 0, 0, 0, 2, 0, 1, 0, 1,
+     1, 0, 2, 0, 0, 0, 2, 0, 1, 0, 1,
+     4, 0, 1, 0, 10, 0, 2, 0, 1, 0, 1,
+     3, 0, 3, 0, 0, 0, 2, 0, 1, 0, 1,
+     5, 0, 1, 0, 20, 0, 2, 0, 1, 0, 1,
+     0, 0, 1, 0, 0, 0, 2, 0, 1, 0, 1},
+    START(6)};
+
+/* Tables that the profile refuses, and no other call. */
+static void refusals_by_profile(void) {
+    static const struct table one_rule = {
+        {0, START(1) - 2, 1, 2, 1, 1, 0, 1, 4, 0, 1, 0, 7, 0, 2, 0, 1, 0, 1}, START(1)};
+    struct table only_one = SORTED;
+    struct table only_ones = BOTH_FAULTS;
+    only_one.bytes[START(4)] = 1;
+    only_ones.bytes[START(3)] = 1;     /* node 3 is such a group too, */
+    only_ones.bytes[START(5)] = 5;     /* and holds rules alone */
+    only_ones.bytes[START(5) + 4] = 7;
+    refuses_by_profile_alone(__LINE__, t_with(0, T[0]), 5, KOLFSEIN_MIXED_GROUP, 0);
+    refuses_by_profile_alone(__LINE__, BOTH_FAULTS, 6, KOLFSEIN_MIXED_GROUP, 3);
+    refuses_by_profile_alone(__LINE__, only_one, 6, KOLFSEIN_RULE_IN_ONLY_ONE, 4);
+    refuses_by_profile_alone(__LINE__, only_ones, 6, KOLFSEIN_RULE_IN_ONLY_ONE, 1);
+    refuses_by_profile_alone(__LINE__, one_rule, 1, KOLFSEIN_RULE_AS_ROOT, 0);
+}
+
+/*
+ * A table that each call refuses, whether or not the set that is asked has a fault too; those by the profile before
+ * they see that a group of T's is mixed.
+ */
 static void refuses(int line, struct table t, uint8_t number, size_t place) {
     const kolfsein_answer should = {number, 0, place, 0, 0};
     const struct asked_together sets[] = {
@@ -438,6 +540,7 @@ static void refuses(int line, struct table t, uint8_t number, size_t place) {
     reads(line, t, should);
     rules(t, &sets[0]);
     rules(t, &sets[1]);
+    refuses_by_profile(line, t, number, place);
     builds(line, t, 63, should, NULL);
 }
 
@@ -463,8 +566,14 @@ static void null_pointers(void) {
     static const kolfsein_answer looked_up = {KOLFSEIN_OK, KOLFSEIN_NOT_APPLICABLE, 0, 0, 0};
     kolfsein_answer is = kolfsein_read(NULL, 0);
     same_answer(__LINE__, is, no_table);
+    is = kolfsein_read_standard(NULL, 0);
+    same_answer(__LINE__, is, no_table);
     mark();
     is = kolfsein_rule(NULL, 0, 1, 0, 0, lent, 3);
+    same_answer(__LINE__, is, no_table);
+    holds(__LINE__, 3, 0, NULL);
+    mark();
+    is = kolfsein_rule_standard(NULL, 0, 1, 0, 0, lent, 3);
     same_answer(__LINE__, is, no_table);
     holds(__LINE__, 3, 0, NULL);
     mark();
@@ -476,6 +585,8 @@ static void null_pointers(void) {
     same_answer(__LINE__, is, no_diagram);
     holds(__LINE__, 3, 0, NULL);
     is = kolfsein_rule(T, sizeof T, KOLFSEIN_SUBJECT(2), 0, 1, NULL, 0);
+    same_answer(__LINE__, is, ruled);
+    is = kolfsein_rule_standard(SORTED.bytes, SORTED.len, KOLFSEIN_SUBJECT(2), 0, 1, NULL, 0);
     same_answer(__LINE__, is, ruled);
     is = kolfsein_build(T, sizeof T, NULL, 0);
     same_answer(__LINE__, is, NO_ROOM);
@@ -493,6 +604,8 @@ int main(void) {
     all_bits_of_a_set();
     same_diagram();
     silent_groups();
+    accepted_by_profile();
+    refusals_by_profile();
     refusals();
     null_pointers();
     printf("%lu checks, %lu failures\n", checks, failures);

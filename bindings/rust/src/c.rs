@@ -25,6 +25,18 @@ extern "C" {
         cards_len: usize,
     ) -> Answer;
 
+    pub(crate) fn kolfsein_read_standard(table: *const u8, table_len: usize) -> Answer;
+
+    pub(crate) fn kolfsein_rule_standard(
+        table: *const u8,
+        table_len: usize,
+        subjects: u64,
+        resource: u16,
+        action: u16,
+        cards: *mut u16,
+        cards_len: usize,
+    ) -> Answer;
+
     pub(crate) fn kolfsein_build(
         table: *const u8,
         table_len: usize,
@@ -95,6 +107,9 @@ impl Answer {
             11 => Reason::Room,
             12 => Reason::Diagram,
             13 => Reason::Subjects,
+            14 => Reason::MixedGroup,
+            15 => Reason::RuleInOnlyOne,
+            16 => Reason::RuleAsRoot,
             other => unreachable!("no refusal has number {other}"),
         };
         Err(Refusal {

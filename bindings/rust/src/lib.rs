@@ -1,7 +1,8 @@
 //! Kolfsein, a verified policy engine for board games: safe calls of its static library.
 //!
 //! A table of rules in nested groups is read, ruled by for one subject or for several that ask together, or built into
-//! a decision diagram, which rules as it does on one subject at a time.
+//! a decision diagram, which rules as it does on one subject at a time. The convention profile reads and rules likewise,
+//! and accepts the tables that are XACML 2.0 as printed.
 //! Each call takes any bytes, any numbers and any values and ends. It allocates nothing and keeps nothing between
 //! calls, so any thread may call; one takes up to some 67 KB of stack. The repository's docs/FORMAT.md describes the
 //! formats.
@@ -10,6 +11,8 @@
 //! - [`rule`] where the table is at hand, for one subject or for several that ask together. It reads the table itself,
 //!   and needs no [`read`] before it.
 //! - [`read`] to see whether a table is accepted, and which node is at fault where it is not.
+//! - [`rule_standard`] and [`read_standard`] in place of these two where a table is to be XACML 2.0 as printed: they
+//!   refuse what this library allows beyond it, and on all other tables they answer as those two do.
 //! - [`build`] to see whether two tables rule alike on every subject by itself, or to hand on these rulings in place of
 //!   the table.
 //! - [`look_up`] for one subject, where a diagram is at hand and no table, or where the subject is over 63 and so in no
@@ -83,6 +86,21 @@ pub const MOST_CARDS: usize = 127;
 /// ```
 pub const MOST_PLACES: usize = 32_768;
 
+/// A C call with the arguments of a ruling by a table. It stands in a block that says why it may be made.
+macro_rules! ruling_by_table {
+    ($call:path, $table:ident, $request:ident, $cards:ident) => {
+        $call(
+            $table.as_ptr(),
+            $table.len(),
+            $request.subjects.bits(),
+            $request.resource,
+            $request.action,
+            $cards.as_mut_ptr(),
+            $cards.len(),
+        )
+    };
+}
+
 /// Reads a table: its number of nodes.
 ///
 /// ```
@@ -149,17 +167,84 @@ pub fn rule(
     cards: &mut [u16],
 ) -> Result<JointRuling, Refusal> {
     // SAFETY: each slice's pointer is valid for its length, and a list that is lent to be written overlaps nothing.
-    let answer = unsafe {
-        c::kolfsein_rule(
-            table.as_ptr(),
-            table.len(),
-            request.subjects.bits(),
-            request.resource,
-            request.action,
-            cards.as_mut_ptr(),
-            cards.len(),
-        )
-    };
+    let answer = unsafe { ruling_by_table!(c::kolfsein_rule, table, request, cards) };
+    answer.ruled()
+}
+
+/// Reads a table by the convention profile, which accepts those that are XACML 2.0 as printed: its number of nodes, as
+/// [`read`] gives it. The root of such a table is a group, every group holds rules alone, groups alone or nothing, and an
+/// only-one-applicable group holds no rule. What a group holds are its children, and not the nodes further down.
+///
+/// ```
+/// use kolfsein::{Reason, Refusal};
+///
+/// let mut table = [
+///     0, 50, 1, 1, 1, 1, 0, 4, // 50 bytes follow, version 1, the maxima 1, 1 and 1, 4 nodes
+///     1, 0, 4, 0, 0, 0, 1, 0, 1, 0, 1, // only one applicable, over all four
+///     2, 0, 2, 0, 0, 0, 0, 0, 1, 0, 1, // permit overrides: of subject 0,
+///     4, 0, 1, 0, 10, 0, 1, 0, 1, 0, 0, // card 10: action 0 may be done
+///     3, 0, 1, 0, 0, 1, 1, 0, 1, 0, 1, // deny overrides: of subject 1, nothing
+/// ];
+/// assert_eq!(kolfsein::read_standard(&table), Ok(4));
+///
+/// // A rule in place of the last group, beside the group at node 1: the root holds rules and groups.
+/// table[41..46].copy_from_slice(&[5, 0, 1, 0, 20]);
+/// assert_eq!(kolfsein::read(&table), Ok(4));
+/// let mixed = Refusal { reason: Reason::MixedGroup, place: 0 };
+/// assert_eq!(kolfsein::read_standard(&table), Err(mixed));
+/// ```
+///
+/// # Errors
+///
+/// The first refusal in this order: those of [`read`], then [`MixedGroup`](Reason::MixedGroup), then
+/// [`RuleInOnlyOne`](Reason::RuleInOnlyOne), then [`RuleAsRoot`](Reason::RuleAsRoot). Each is looked for in all nodes
+/// before the next.
+pub fn read_standard(table: &[u8]) -> Result<usize, Refusal> {
+    // SAFETY: the slice's pointer is valid to read for its length.
+    let answer = unsafe { c::kolfsein_read_standard(table.as_ptr(), table.len()) };
+    answer.counted()
+}
+
+/// Rules by the convention profile on subjects that ask together: wherever [`read_standard`] accepts the table, the
+/// ruling and the list are those of [`rule`]. There every group of rules combines by the rule-combining algorithm of its
+/// kind in XACML 2.0, appendix C, and every group of groups by the policy-combining one.
+///
+/// ```
+/// use kolfsein::{Decision, JointRequest, Reason, Subjects};
+///
+/// let mut table = [
+///     0, 28, 1, 1, 1, 1, 0, 2, // 28 bytes follow, version 1, the maxima 1, 1 and 1, 2 nodes
+///     2, 0, 2, 0, 0, 0, 1, 0, 1, 0, 1, // permit overrides, over both
+///     4, 0, 1, 0, 10, 0, 1, 0, 1, 0, 0, // card 10: action 0 may be done
+/// ];
+/// let subjects = Subjects::of([0, 1]).unwrap();
+/// let request = JointRequest { subjects, resource: 1, action: 0 };
+/// let mut cards = [7; 3];
+/// let ruling = kolfsein::rule_standard(&table, request, &mut cards)?;
+/// assert_eq!((ruling.decision, ruling.count, ruling.subjects), (Decision::Permit, 1, 2));
+/// assert_eq!(cards, [10, 0, 0]);
+///
+/// // There is no rule-combining form of only one applicable.
+/// table[8] = 1;
+/// assert!(kolfsein::rule(&table, request, &mut cards).is_ok());
+/// let refusal = kolfsein::rule_standard(&table, request, &mut cards).unwrap_err();
+/// assert_eq!((refusal.reason, refusal.place), (Reason::RuleInOnlyOne, 0));
+/// assert_eq!(cards, [0; 3]);
+/// # Ok::<(), kolfsein::Refusal>(())
+/// ```
+///
+/// # Errors
+///
+/// The first refusal in this order: those of [`read_standard`], then [`Subjects`](Reason::Subjects), then
+/// [`Value`](Reason::Value), of the resource or the action, then [`ListTooShort`](Reason::ListTooShort). The list is
+/// then all 0.
+pub fn rule_standard(
+    table: &[u8],
+    request: JointRequest,
+    cards: &mut [u16],
+) -> Result<JointRuling, Refusal> {
+    // SAFETY: each slice's pointer is valid for its length, and a list that is lent to be written overlaps nothing.
+    let answer = unsafe { ruling_by_table!(c::kolfsein_rule_standard, table, request, cards) };
     answer.ruled()
 }
 

@@ -18,7 +18,8 @@ use std::fmt;
 pub struct Refusal {
     /// The first reason that applies, in the order of the call.
     pub reason: Reason,
-    /// The node at fault for the reasons `Kind` to `Card`, the field for `Value`, else 0.
+    /// The node at fault for the reasons `Kind` to `Card`, `MixedGroup` and `RuleInOnlyOne`, the field for `Value`, else
+    /// 0.
     pub place: usize,
 }
 
@@ -59,15 +60,25 @@ pub enum Reason {
     Diagram = 12,
     /// The set of subjects is empty, or has one over the table's maximum.
     Subjects = 13,
+    /// By the convention profile: a group holds rules and groups; the lowest such group.
+    MixedGroup = 14,
+    /// By the convention profile: an only-one-applicable group holds a rule; the lowest such group.
+    RuleInOnlyOne = 15,
+    /// By the convention profile: the root is a rule.
+    RuleAsRoot = 16,
 }
 
 impl fmt::Display for Refusal {
     fn fmt(&self, f: &mut fmt::Formatter<'_>) -> fmt::Result {
         write!(f, "refusal {}", self.reason as u8)?;
         match self.reason {
-            Reason::Kind | Reason::Span | Reason::Level | Reason::Range | Reason::Card => {
-                write!(f, " at node {}", self.place)?;
-            }
+            Reason::Kind
+            | Reason::Span
+            | Reason::Level
+            | Reason::Range
+            | Reason::Card
+            | Reason::MixedGroup
+            | Reason::RuleInOnlyOne => write!(f, " at node {}", self.place)?,
             Reason::Value => write!(f, " at field {}", self.place)?,
             _ => {}
         }
@@ -93,6 +104,9 @@ impl fmt::Display for Reason {
             Reason::Room => "the diagram needs over 32,768 places or more than lent",
             Reason::Diagram => "the diagram is not sound",
             Reason::Subjects => "the set of subjects is empty, or has one over the maximum",
+            Reason::MixedGroup => "a group holds rules and groups",
+            Reason::RuleInOnlyOne => "an only-one-applicable group holds a rule",
+            Reason::RuleAsRoot => "the root is a rule",
         })
     }
 }

@@ -19,8 +19,8 @@ pub struct Request {
     pub action: u16,
 }
 
-/// What [`rule`](crate::rule) is asked: the subjects that ask together, and a value for each other field. Each value
-/// has 16 bits, so that one over 255 is refused and not wrapped.
+/// What [`rule`](crate::rule) and [`rule_standard`](crate::rule_standard) are asked: the subjects that ask together, and
+/// a value for each other field. Each value has 16 bits, so that one over 255 is refused and not wrapped.
 ///
 /// ```
 /// use kolfsein::{JointRequest, Subjects};
@@ -80,7 +80,7 @@ pub struct Ruling {
     pub count: usize,
 }
 
-/// What [`rule`](crate::rule) hands back where nothing is refused.
+/// What [`rule`](crate::rule) and [`rule_standard`](crate::rule_standard) hand back where nothing is refused.
 ///
 /// ```
 /// use kolfsein::{Decision, JointRequest, JointRuling, Subjects};

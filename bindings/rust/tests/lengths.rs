@@ -27,6 +27,8 @@ fn long_slices() {
         let due = Due::read(&Table::read(&longer));
         compare.reads(&longer, &due);
         compare.rules(&longer, &joint, 2, &due);
+        compare.reads_standard(&longer, &due);
+        compare.rules_standard(&longer, &joint, 2, &due);
         compare.builds(&longer, 63, &due);
         // a diagram is not
         let longer = [&diagram[..], &vec![1; length - diagram.len()]].concat();

@@ -14,5 +14,6 @@ mod reading;
 mod refusals;
 mod ruling;
 mod sets;
+mod standard;
 mod subjects;
 mod vectors;

@@ -2,9 +2,10 @@
 
 use std::error::Error;
 
-use kolfsein::{build, look_up, read, rule, JointRequest, Reason, Refusal, Request, Subjects};
+use kolfsein::{build, look_up, read, read_standard, rule, rule_standard};
+use kolfsein::{JointRequest, Reason, Refusal, Request, Subjects};
 
-const REASONS: [Reason; 13] = [
+const REASONS: [Reason; 16] = [
     Reason::Length,
     Reason::Version,
     Reason::NodeCount,
@@ -18,6 +19,9 @@ const REASONS: [Reason; 13] = [
     Reason::Room,
     Reason::Diagram,
     Reason::Subjects,
+    Reason::MixedGroup,
+    Reason::RuleInOnlyOne,
+    Reason::RuleAsRoot,
 ];
 
 #[test]
@@ -27,7 +31,7 @@ fn numbers_and_texts() {
         assert_eq!(reason as usize, number);
         let refusal: Box<dyn Error> = Box::new(Refusal { reason, place: 2 });
         let place = match number {
-            4..=8 => " at node 2",
+            4..=8 | 14 | 15 => " at node 2",
             9 => " at field 2",
             _ => "",
         };
@@ -56,6 +60,11 @@ fn empty_slices() {
     assert_eq!(read(&[]), Err(refused(Reason::Length)));
     assert_eq!(rule(&[], joint, &mut []), Err(refused(Reason::Length)));
     assert_eq!(rule(&one_rule, joint, &mut []), Err(too_short));
+    let no_table = Err(refused(Reason::Length));
+    let as_root = Err(refused(Reason::RuleAsRoot));
+    assert_eq!(read_standard(&[]), Err(refused(Reason::Length)));
+    assert_eq!(rule_standard(&[], joint, &mut []), no_table);
+    assert_eq!(rule_standard(&one_rule, joint, &mut []), as_root);
     assert_eq!(build(&[], &mut []), Err(refused(Reason::Length)));
     assert_eq!(build(&one_rule, &mut []), Err(refused(Reason::Room)));
     assert_eq!(

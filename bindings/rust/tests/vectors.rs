@@ -10,9 +10,11 @@ use crate::evaluator::{self, Diagram, Due, Joint, Table, Values, MOST_SUBJECTS};
 const VECTORS: &str = include_str!("../../../crates/cases/stdin");
 
 /// How many cases there are of each call at least.
-const LEAST: [(&str, usize); 4] = [
+const LEAST: [(&str, usize); 6] = [
     ("read", 150),
     ("rule", 550),
+    ("read_standard", 90),
+    ("rule_standard", 110),
     ("build", 75),
     ("look_up", 320),
 ];
@@ -21,6 +23,8 @@ const LEAST: [(&str, usize); 4] = [
 enum Call {
     Read(Vec<u8>),
     Rule(Vec<u8>, Joint, usize),
+    ReadStandard(Vec<u8>),
+    RuleStandard(Vec<u8>, Joint, usize),
     Build(Vec<u8>, usize),
     LookUp(Vec<u16>, Values, usize),
 }
@@ -30,6 +34,8 @@ impl Call {
         match self {
             Call::Read(_) => "read",
             Call::Rule(..) => "rule",
+            Call::ReadStandard(_) => "read_standard",
+            Call::RuleStandard(..) => "rule_standard",
             Call::Build(..) => "build",
             Call::LookUp(..) => "look_up",
         }
@@ -41,6 +47,11 @@ impl Call {
             Call::Read(bytes) => Due::read(&Table::read(bytes)),
             Call::Rule(bytes, joint, places) => {
                 let ruled = evaluator::rule(&Table::read(bytes), joint);
+                Due::ruled(&ruled, joint, *places)
+            }
+            Call::ReadStandard(bytes) => Due::read(&Table::read_standard(bytes)),
+            Call::RuleStandard(bytes, joint, places) => {
+                let ruled = evaluator::rule_standard(&Table::read_standard(bytes), joint);
                 Due::ruled(&ruled, joint, *places)
             }
             Call::Build(bytes, places) => {
@@ -58,6 +69,10 @@ impl Call {
         match self {
             Call::Read(bytes) => compare.reads(bytes, due),
             Call::Rule(bytes, joint, places) => compare.rules(bytes, joint, *places, due),
+            Call::ReadStandard(bytes) => compare.reads_standard(bytes, due),
+            Call::RuleStandard(bytes, joint, places) => {
+                compare.rules_standard(bytes, joint, *places, due);
+            }
             Call::Build(bytes, places) => {
                 compare.builds(bytes, *places, due);
             }
@@ -111,18 +126,24 @@ impl Starts {
     fn call(&self, call: &str, changes: &str) -> Option<Call> {
         let table = || changed(&self.table, changes);
         let diagram = || changed(&self.diagram, changes);
-        if let Some(asked) = call.strip_prefix("rule {") {
+        if let Some((name, asked)) = call.split_once(" {") {
             let (set, others) = asked.split_once("} ")?;
             let words: Vec<&str> = others.split(' ').collect();
             let [resource, action, "list", places] = words[..] else {
                 return None;
             };
             let joint = Joint::new(members(set)?, [number(resource)?, number(action)?]);
-            return Some(Call::Rule(table()?, joint, number(places)?));
+            let places = number(places)?;
+            return match name {
+                "rule" => Some(Call::Rule(table()?, joint, places)),
+                "rule_standard" => Some(Call::RuleStandard(table()?, joint, places)),
+                _ => None,
+            };
         }
         let words: Vec<&str> = call.split(' ').collect();
         Some(match words[..] {
             ["read"] => Call::Read(table()?),
+            ["read_standard"] => Call::ReadStandard(table()?),
             ["build", "room", places] => Call::Build(table()?, number(places)?),
             ["look_up", ref asked @ .., "list", places] => {
                 Call::LookUp(diagram()?, values(asked)?, number(places)?)
@@ -210,5 +231,5 @@ fn every_line() {
     for (call, least) in LEAST {
         assert!(counts[call] >= least, "too few cases of {call}");
     }
-    compare.end(10_000, 0..=13, 3);
+    compare.end(10_000, 0..=16, 3);
 }

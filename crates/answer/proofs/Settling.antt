@@ -121,6 +121,18 @@ module _ {A L : Type 0} (no : ℕ → ℕ → A) (blank : L) (yes : A) (shown : 
         either = first-or-none rs;
       }
 
+-- a call in two parts: the refusals of the first, and then those of the second
+module _ {A L : Type 0} (no : ℕ → ℕ → A) (blank : L) (yes : A) (shown : L) (xs ys : List Refusal) where
+  pub refused-before : {r : Refusal} (a : A) (lent : L) → First xs r → a ≡ no (r .number) (r .place) → lent ≡ blank →
+      Settled no blank yes shown (xs ++ ys) a lent
+  refused-before a lent f = refuses no blank yes shown (xs ++ ys) a lent (first-in xs ys f)
+
+  pub settled-later : (a : A) (lent : L) → None xs → Settled no blank yes shown ys a lent → Settled no blank yes shown (xs ++ ys) a lent
+  settled-later a lent n h = (
+    h .0 ∙ sym (settled-after no yes xs ys n),
+    h .1 ∙ sym (settled-after (λ number place. blank) shown xs ys n),
+  )
+
 -- no refusal has number 0
 abbrev pub Numbered : List Refusal → Type 0
 Numbered rs = All (λ r. 0 < r .number) rs

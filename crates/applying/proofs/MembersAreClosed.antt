@@ -12,7 +12,7 @@ use Rattle.table.specs.WellFormed.{WellFormed}
 use Rattle.ruling.proofs.Throughout.{throughout-down}
 use Rattle.sets.specs.Sets.{most, has, Has}
 use Rattle.sets.specs.declared.Set.{Set}
-use Rattle.deciding.specs.Closed.{Closed}
+use Rattle.ruling.specs.Closed.{Closed}
 use Rattle.applying.specs.Members.{rangeHolds, appliesIn, member}
 
 module _ (t : List ℕ) where

@@ -15,7 +15,7 @@ use Rattle.table.specs.Layout.{maximum, maxima, HeaderHeld}
 use Rattle.table.specs.WellFormed.{WellFormed}
 use Rattle.table.proofs.Places.{header-held}
 use Rattle.table.proofs.Maxima.{maxima-length, maxima-each}
-use Rattle.deciding.specs.Closed.{Closed}
+use Rattle.ruling.specs.Closed.{Closed}
 use Rattle.applying.specs.Members.{member, rulingFrom}
 use Rattle.applying.specs.Filled.{setAt, runEnd, Filled}
 use Rattle.applying.proofs.MembersAreClosed.{member-closed, meet-closed, has-closed}

@@ -20,11 +20,15 @@ pub(crate) const READ: usize = 0;
 
 pub(crate) const RULE: usize = 1;
 
-pub(crate) const BUILD: usize = 2;
+pub(crate) const READ_STANDARD: usize = 2;
 
-pub(crate) const LOOK_UP: usize = 3;
+pub(crate) const RULE_STANDARD: usize = 3;
 
-pub(crate) const CALLS: usize = 4;
+pub(crate) const BUILD: usize = 4;
+
+pub(crate) const LOOK_UP: usize = 5;
+
+pub(crate) const CALLS: usize = 6;
 
 // The number of the answer where a case does not say what is asked.
 pub(crate) const NOT_ASKED: u8 = 255;
@@ -54,18 +58,36 @@ pub(crate) fn named(text: &[u8]) -> Call {
     if is_worded(text, b" read", 0, &mut list) {
         return made(READ, 0, [0, 0, 0, 0]);
     }
+    if is_worded(text, b" read_standard", 0, &mut list) {
+        return made(READ_STANDARD, 0, [0, 0, 0, 0]);
+    }
     if is_worded(text, b" build room*", 1, &mut list) {
         return made(BUILD, 0, [0, 0, 0, list[0]]);
     }
     if is_worded(text, b" look_up*list*", 4, &mut list) {
         return made(LOOK_UP, 0, list);
     }
-    let end = find(text, 0, b'}');
-    let said = subjects_in(between(text, 0, end));
+    let start = find(text, 0, b'{');
+    let end = find(text, start, b'}');
+    let said = subjects_in(between(text, start, end));
     if said.understood & is_worded(between(text, end, text.len()), b"}*list*", 3, &mut list) {
-        return made(RULE, said.subjects, [0, list[0], list[1], list[2]]);
+        let which = ruling_named(between(text, 0, start));
+        return made(which, said.subjects, [0, list[0], list[1], list[2]]);
     }
     made(CALLS, 0, [0, 0, 0, 0])
+}
+
+// The ruling that a text says, up to where its set starts.
+fn ruling_named(text: &[u8]) -> usize {
+    let mut none = [0; 1];
+    if is_worded(text, b" rule ", 0, &mut none) {
+        return RULE;
+    }
+    if is_worded(text, b" rule_standard ", 0, &mut none) {
+        RULE_STANDARD
+    } else {
+        CALLS
+    }
 }
 
 // Whether a text is worded as a pattern, with so many numbers.
@@ -74,10 +96,10 @@ fn is_worded(text: &[u8], pattern: &[u8], count: usize, list: &mut [u16]) -> boo
     scanned.fits & (scanned.count == count)
 }
 
-// The set of subjects that the text of a ruling says, up to where the set ends.
+// The set of subjects that a text says, from where the set starts up to where it ends.
 fn subjects_in(text: &[u8]) -> Said {
     let mut list = [0; MOST];
-    let scanned = scan(text, b" rule {*", &mut list);
+    let scanned = scan(text, b"{*", &mut list);
     let mut subjects = 0;
     let mut at = 0;
     while at < scanned.count {
@@ -123,7 +145,7 @@ pub(crate) fn ask(
         return not_asked();
     }
     match which {
-        READ | RULE | BUILD => ask_table(call, table, changes, &mut list[0..places]),
+        READ..=BUILD => ask_table(call, table, changes, &mut list[0..places]),
         LOOK_UP => ask_diagram(call, diagram, changes, &mut list[0..places]),
         _ => not_asked(),
     }
@@ -145,6 +167,8 @@ fn ask_table(call: Call, line: &[u8], changes: &[u8], lent: &mut [u16]) -> Answe
     match which {
         READ => table::read(table),
         RULE => ruling::rule(table, request, lent),
+        READ_STANDARD => standard::read_standard(table),
+        RULE_STANDARD => standard::rule_standard(table, request, lent),
         _ => building::build(table, lent),
     }
 }

@@ -4,7 +4,9 @@ use crate::calls::BUILD;
 use crate::calls::CALLS;
 use crate::calls::LOOK_UP;
 use crate::calls::READ;
+use crate::calls::READ_STANDARD;
 use crate::calls::RULE;
+use crate::calls::RULE_STANDARD;
 use answer::Answer;
 use std::num::wrapping_add_usize;
 
@@ -66,6 +68,8 @@ impl Tally {
         let counts = self.counts;
         print_call(b"read:", counts, READ);
         print_call(b"rule:", counts, RULE);
+        print_call(b"read_standard:", counts, READ_STANDARD);
+        print_call(b"rule_standard:", counts, RULE_STANDARD);
         print_call(b"build:", counts, BUILD);
         print_call(b"look_up:", counts, LOOK_UP);
         item(b"differences", counts[DIFFERENCES]);

@@ -10,11 +10,11 @@ use Rattle.combining.specs.Ways.{notApplicable, indeterminate, Child, as
 use Rattle.combining.proofs.Table.{passes}
 
 -- P holds of each number below n
-abbrev Each : ℕ → (ℕ → Type 0) → Type 0
+abbrev pub Each : ℕ → (ℕ → Type 0) → Type 0
 Each zero P = Unit {0}
 Each (suc n) P = P 0 × Each n (λ i. P (suc i))
 
-pick : (n : ℕ) (P : ℕ → Type 0) → Each n P → (i : ℕ) → i < n → P i
+pub pick : (n : ℕ) (P : ℕ → Type 0) → Each n P → (i : ℕ) → i < n → P i
 pick zero P ps i h = absurd (not-suc-le-zero h)
 pick (suc n) P ps zero h = ps .0
 pick (suc n) P ps (suc i) h = pick n (λ i. P (suc i)) (ps .1) i (le-of-suc-le-suc h)

@@ -14,7 +14,7 @@ use Rattle.answer.specs.Refusals.{None, First, here}
 use Rattle.answer.specs.Rulings.{answerOf}
 use Rattle.answer.specs.declared.Answer.{Answer}
 use Rattle.answer.proofs.FirstField.{fault-alike}
-use Rattle.answer.proofs.Settling.{settled-after}
+use Rattle.answer.proofs.Settling.{settled-later}
 use Rattle.answer.proofs.RequestRefusals.{within-ruled, asked-below}
 use Rattle.diagram.specs.Layout.{maximum, decisionAt, countAt}
 use Rattle.diagram.specs.LookUp.{ruledBy}
@@ -60,12 +60,9 @@ module _ (d : List ℕ) where
     pub sound-answers : (n m : ℕ) → Sound fields d → m ≡ n → (a : Answer) (list : List ℕ) → a ≡ soundLookedUp d q m → list ≡ soundLookedUpList d q m →
         (a ≡ lookedUp d q n) × (list ≡ lookedUpList d q n)
     sound-answers n m s k a list e z =
-        let r = ruledBy d q in (
-          e ∙ ap (soundLookedUp d q) k
-              ∙ sym (settled-after refused (answerOf r 0) (diagramRefusal d ∷ []) (soundRefusals d q n) (sound s)),
-          z ∙ ap (soundLookedUpList d q) k
-              ∙ sym (settled-after (λ number place. zeros n) (padded (r .cards) n) (diagramRefusal d ∷ []) (soundRefusals d q n) (sound s)),
-        )
+        let r = ruledBy d q in
+        settled-later refused (zeros n) (answerOf r 0) (padded (r .cards) n) (diagramRefusal d ∷ []) (soundRefusals d q n) a list (sound s)
+        (e ∙ ap (soundLookedUp d q) k, z ∙ ap (soundLookedUpList d q) k)
 
     -- every request within the maxima of a sound diagram gets its ruling, where the list is long enough
     pub sound-ruled : (n : ℕ) → Sound fields d → Within (maximum d) q → length (ruledBy d q .cards) ≤ n →

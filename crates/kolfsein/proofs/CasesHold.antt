@@ -6,23 +6,22 @@ use mathlib.Core.List.{List, [], _∷_}
 use Prim.Native.Nat.{ℕ, _-_, _≤_, _<_}
 use native.Mathlib.Omega.{arith}
 use borrow.Author.Tests.{le-ltb}
-use lib.Dec.{lit≤}
 use lib.ListN.{length}
 use Rattle.answer.specs.Answers.{counted, ruled, zeros, padded}
 use Rattle.answer.specs.Refusals.{upward, settled}
 use Rattle.answer.specs.Rulings.{answerOf}
 use Rattle.answer.specs.Below.{someBelow, countBelow}
-use Rattle.answer.proofs.RequestRefusals.{within-ruled}
 use Rattle.combining.specs.Ways.{notApplicable}
 use Rattle.table.specs.Layout.{word, maximum, valuesFrom, maxima, count, header, recordSize, start, recordByte, recordWord}
 use Rattle.table.specs.Tree.{parent, level}
 use Rattle.table.specs.Reading.{lengthFault, versionFault, countFault, kindFault, spanFault, levelFault, rangeFault, rangesFault, cardFault, tableRefusals, Accepted}
-use Rattle.ruling.specs.Forest.{forestWithin}
+use Rattle.ruling.specs.Forest.{forestWithin, childrenFrom}
 use Rattle.ruling.specs.Targets.{inRange, targetHolds, applies}
 use Rattle.ruling.specs.Subjects.{appliesToSome, size, subjectsFault, AskedWithin}
 use Rattle.ruling.specs.Meaning.{gives, cardsFrom, meaning}
-use Rattle.ruling.specs.Ruling.{groups, groupsTogether, askedRefusals}
-use Rattle.ruling.proofs.WithinTogether.{asked-none, asked-passes}
+use Rattle.ruling.specs.Ruling.{groups, groupsTogether}
+use Rattle.ruling.proofs.WithinTogether.{within-answered}
+use Rattle.standard.specs.Profile.{holdsRule, holdsGroup, mixedGroup, ruleInOnlyOne, ruleAsRoot, profileRefusals}
 use Rattle.sets.specs.Sets.{bit}
 use Rattle.diagram.specs.Entries.{terminal, node}
 use Rattle.diagram.specs.Decided.{le?, lt?, eq?, iff?, not?, and?, or?, when?, one-more?, each?}
@@ -33,7 +32,7 @@ use Rattle.diagram.proofs.DiagramGoesByRulingsWithin.{diagram-goes-by-rulings-w
 use Rattle.diagram.proofs.OneRulingForAll.{none-everywhere}
 use Rattle.building.specs.Built.{diagramOf}
 use Rattle.building.proofs.BuildAnswers.{accepted-built}
-use Rattle.kolfsein.specs.Cases.{tableT, overOnlyOne, emptyRoot, emptyDiagram, permitFirst, denyFirst, ruleFor1InGroupFor0, silentBesidePermit, oneSilent, twoSilent, emptyBesidePermit, GivesRuling, GivesDiagram, Cases}
+use Rattle.kolfsein.specs.Cases.{tableT, overOnlyOne, emptyRoot, emptyDiagram, permitFirst, denyFirst, ruleFor1InGroupFor0, silentBesidePermit, oneSilent, twoSilent, emptyBesidePermit, ruleRoot, twoFaults, groupsOfRules, GivesRuling, GivesDiagram, Cases}
 
 either : (b : Bool) (n : ℕ) → cond b n n ≡ n
 either true n = refl
@@ -78,8 +77,7 @@ module _ (kind subject resource action : ℕ) (few : kind < 4) where
       let none : n - 0 ≡ n = omega arith in
       let e = empty-meaning (appliesToSome t s others) in
       let h =
-      within-ruled (askedRefusals t s) (maximum t) (0 ∷ others) 1 (lit≤ tt) r (size s) n (asked-none t s others empty-accepted asked)
-      (asked-passes t s others asked .1) (omega (arith, ap (λ r. length (r .cards)) e)) in
+      within-answered t s others n (tableRefusals t) empty-accepted asked (omega (arith, ap (λ r. length (r .cards)) e)) in
       record {
         answer = h .0 ∙ ap (λ r. answerOf r (size s)) e;
         holds = h .1 ∙ ap (λ r. padded (r .cards) n) e ∙ ap zeros none;
@@ -108,7 +106,7 @@ module _ (kind subject resource action : ℕ) (few : kind < 4) where
       }
 
 pub cases-hold : Cases
-unfolding diagram walk enter extend below terminal node edge lookUp tableT overOnlyOne permitFirst denyFirst ruleFor1InGroupFor0 silentBesidePermit oneSilent twoSilent emptyBesidePermit upward settled word maximum valuesFrom maxima count header recordSize start recordByte recordWord parent level lengthFault versionFault countFault kindFault spanFault levelFault rangeFault rangesFault cardFault tableRefusals forestWithin inRange targetHolds applies bit someBelow countBelow appliesToSome subjectsFault gives cardsFrom le? lt? eq? iff? not? and? or? when? one-more? each? scan? start? entry-before? terminal-holds? sound-terminal? sound-node? sound-entry? sound?
+unfolding diagram walk enter extend below terminal node edge lookUp tableT overOnlyOne permitFirst denyFirst ruleFor1InGroupFor0 silentBesidePermit oneSilent twoSilent emptyBesidePermit ruleRoot twoFaults groupsOfRules emptyRoot holdsRule holdsGroup mixedGroup ruleInOnlyOne ruleAsRoot profileRefusals childrenFrom upward settled word maximum valuesFrom maxima count header recordSize start recordByte recordWord parent level lengthFault versionFault countFault kindFault spanFault levelFault rangeFault rangesFault cardFault tableRefusals forestWithin inRange targetHolds applies bit someBelow countBelow appliesToSome subjectsFault gives cardsFrom le? lt? eq? iff? not? and? or? when? one-more? each? scan? start? entry-before? terminal-holds? sound-terminal? sound-node? sound-entry? sound?
 cases-hold =
     record {
       t-0-0-0 = record { answer = refl; holds = refl };
@@ -147,4 +145,18 @@ cases-hold =
       one-counts-for-0 = record { answer = refl; holds = refl };
       one-counts-for-1 = record { answer = refl; holds = refl };
       two-count-for-both = record { answer = refl; holds = refl };
+      t-mixed = refl;
+      t-mixed-ruled = record { answer = refl; holds = refl };
+      rule-in-only-one = refl;
+      rule-in-only-one-ruled = record { answer = refl; holds = refl };
+      rule-as-root = refl;
+      rule-as-root-ruled = record { answer = refl; holds = refl };
+      mixed-after-only-one = refl;
+      mixed-before-13 = record { answer = refl; holds = refl };
+      groups-of-rules = refl;
+      groups-of-rules-for-0 = record { answer = refl; holds = refl };
+      groups-of-rules-for-both = record { answer = refl; holds = refl };
+      groups-of-rules-list-of-1 = record { answer = refl; holds = refl };
+      groups-of-rules-no-subject = record { answer = refl; holds = refl };
+      empty-standard = (refl, refl, refl, refl);
     }

@@ -5,29 +5,34 @@ use mathlib.Core.Bool.{true, false, not}
 use mathlib.Core.Logic.{_↔_}
 use mathlib.Core.List.{List, _∷_, _++_}
 use Prim.Native.Nat.{ℕ, _-_, _^_, _<_}
-use lib.Dec.{lit≤}
+use borrow.Author.Tests.{leb-false}
 use lib.ListN.{length}
 use Rattle.answer.specs.Fields.{fields}
 use Rattle.answer.specs.Answers.{refused, counted, ruled, zeros, padded}
 use Rattle.answer.specs.Rulings.{Ruling, answerOf}
 use Rattle.answer.proofs.Settling.{answers}
-use Rattle.answer.proofs.RequestRefusals.{within-ruled}
-use Rattle.table.specs.Layout.{maximum, maxima, count}
+use Rattle.table.specs.Layout.{maximum, maxima, count, kind}
 use Rattle.table.specs.Reading.{tableRefusals, Accepted}
 use Rattle.table.proofs.Accepting.{accepted-reading}
 use Rattle.table.proofs.AcceptedIsWellFormed.{well-formed}
 use Rattle.ruling.specs.Targets.{targetHolds, applies}
 use Rattle.ruling.specs.Subjects.{mostSubjects, appliesToSome, size, AskedWithin}
-use Rattle.ruling.specs.Ruling.{groups, groupsTogether, askedRefusals, rulingRefusals, ruling, ruledList}
+use Rattle.ruling.specs.Ruling.{groups, groupsTogether, rulingRefusals, ruling, ruledList}
 use Rattle.ruling.proofs.DecisionAsWorded.{decision-as-worded}
 use Rattle.ruling.proofs.Throughout.{pass-root}
+use Rattle.ruling.proofs.AppliesIsClosed.{applies-closed, applies-to-some-closed}
 use Rattle.ruling.proofs.AppliesByParents.{applies-by-parents}
 use Rattle.ruling.proofs.SubjectsByParents.{applies-to-some-by-parents}
 use Rattle.ruling.proofs.ChildrenByParents.{children-by-parents}
 use Rattle.ruling.proofs.DecisionByChildren.{decision-by-children}
 use Rattle.ruling.proofs.CardsOfMatchingRules.{each-listed, number-of-cards}
 use Rattle.ruling.proofs.OneSubject.{size-one, one-subject, one-asked}
-use Rattle.ruling.proofs.WithinTogether.{asked-none, asked-passes, ruled-exactly}
+use Rattle.ruling.proofs.WithinTogether.{within-answered, ruled-exactly}
+use Rattle.standard.specs.Profile.{standardRefusals}
+use Rattle.standard.specs.RulingStandard.{rulingStandardRefusals}
+use Rattle.standard.proofs.Accepting.{standard-accepted}
+use Rattle.standard.proofs.EqualAnswers.{equal-reading, equal-ruling}
+use Rattle.standard.proofs.GroupsAsPrinted.{rules-as-printed, groups-as-printed, empty-as-printed}
 use Rattle.diagram.specs.Layout.{used}
 use Rattle.diagram.specs.LookUp.{ruledBy}
 use Rattle.diagram.specs.Sound.{Sound}
@@ -54,9 +59,7 @@ question : (t : List ℕ) (s : ℕ) (others : List ℕ) (n : ℕ) → Accepted t
     LongEnough (groupsTogether t s others) n →
     Rules (ruling t s others n) (ruledList t s others n) (groupsTogether t s others) (size s) n
 question t s others n c w l =
-    let h =
-    within-ruled (askedRefusals t s) (maximum t) (0 ∷ others) 1 (lit≤ tt) (groupsTogether t s others) (size s) n
-    (asked-none t s others c w) (asked-passes t s others w .1) l in
+    let h = within-answered t s others n (tableRefusals t) c w l in
     record { answer = h .0; cards = h .1 }
 
 -- demand 3, through the walk's diagram, which the used part is
@@ -131,13 +134,18 @@ demands-hold =
           λ t s others n.
           let r = groupsTogether t s others in
           answers refused (zeros n) (answerOf r (size s)) (padded (r .cards) n) (rulingRefusals t s others n);
+      standard-reading-refuses = λ t. answers refused nothing (counted (count t)) nothing (standardRefusals t);
+      standard-ruling-refuses =
+          λ t s others n.
+          let r = groupsTogether t s others in
+          answers refused (zeros n) (answerOf r (size s)) (padded (r .cards) n) (rulingStandardRefusals t s others n);
       build-refuses = λ t n. answers refused (zeros n) (counted (length (diagramOf t))) (padded (diagramOf t) n) (buildRefusals t n);
       look-up-refuses = λ d q n. answers refused (zeros n) (answerOf (ruledBy d q) 0) (padded (ruledBy d q .cards) n) (lookUpRefusals d q n);
       unsound-refused = unsound;
       reading-counts = accepted-reading;
       build-counts = counts;
       question-ruled = question;
-      question-accepted = ruled-exactly;
+      question-accepted = λ t s others n. ruled-exactly t s others n (tableRefusals t);
       applies-worded = λ t s others i c l. applies-to-some-by-parents t s others c i l;
       children-asked = λ t s others i c l. decision-by-children (appliesToSome t s others) t c i l;
       children-worded = λ t i c l. children-by-parents t c i l;
@@ -145,6 +153,13 @@ demands-hold =
       true-count = λ t s others. number-of-cards (appliesToSome t s others) t;
       one-by-groups = λ t k others c l. (one-subject k l t others c, size-one k l);
       one-by-diagram = alone;
+      standard-accepted = λ t h. (standard-accepted t h, equal-reading t h);
+      standard-ruled-alike = λ t s others n h. equal-ruling t h s others n;
+      rules-as-printed = λ t a i h c l. rules-as-printed t h a c i l;
+      groups-as-printed = λ t a i h c l. groups-as-printed t h a c i l;
+      empty-as-printed = λ t a i h c l g. empty-as-printed a t (standard-accepted t h) c i l (leb-false 4 (kind t i) g);
+      sets-closed = λ t s others c. applies-to-some-closed t (well-formed t c) s others;
+      one-closed = λ t q c. applies-closed t (well-formed t c) q;
       diagram-rules = through;
       equal-exactly = equal;
       decision-worded = λ t q c. sym (decision-as-worded t q c 0 (well-formed t c .some) (pass-root t (targetHolds t q)));

@@ -5,11 +5,13 @@ use mathlib.Core.Path.{_≡_}
 use Prim.Native.Nat.{ℕ, _+_, _*_, _^_, _≤_, _<_}
 use Rattle.answer.specs.Answers.{refused, counted, ruled, zeros, padded}
 use Rattle.answer.specs.declared.Answer.{Answer}
-use Rattle.combining.specs.Kinds.{firstApplicableKind, onlyOneApplicableKind}
+use Rattle.combining.specs.Kinds.{firstApplicableKind, onlyOneApplicableKind, permitOverridesKind, denyOverridesKind}
 use Rattle.combining.specs.Ways.{notApplicable, permit, deny, indeterminate}
 use Rattle.table.specs.Layout.{maximum}
 use Rattle.ruling.specs.Subjects.{size, AskedWithin}
 use Rattle.ruling.specs.Ruling.{ruling, ruledList}
+use Rattle.standard.specs.Profile.{readingStandard}
+use Rattle.standard.specs.RulingStandard.{rulingStandard, ruledListStandard}
 use Rattle.diagram.specs.LookedUp.{lookedUp, lookedUpList}
 use Rattle.diagram.specs.SmallRulebook.{diagramT}
 use Rattle.building.specs.Built.{built, builtDiagram}
@@ -82,12 +84,13 @@ ruleFor1InGroupFor0 =
     ∷ 4 ∷ 0 ∷ 1 ∷ 0 ∷ 1 ∷ 1 ∷ 1 ∷ 0 ∷ 0 ∷ 0 ∷ 0
     ∷ []
 
--- paper 2, "A group that holds but is silent": for subjects 0 and 1, over a permit rule for subject 1, with card 3
+-- a group of a kind, for subjects 0 and 1, before n nodes under it and those after them
+abbrev groupOver : ℕ → ℕ → List ℕ → List ℕ
+groupOver kind n more = kind ∷ 0 ∷ (n + 1) ∷ 0 ∷ 0 ∷ 0 ∷ 1 ∷ 0 ∷ 0 ∷ 0 ∷ 0 ∷ more
+
+-- paper 2, "A group that holds but is silent": over a permit rule for subject 1, with card 3
 abbrev silentFor0 : List ℕ → List ℕ
-silentFor0 more =
-    0 ∷ 0 ∷ 2 ∷ 0 ∷ 0 ∷ 0 ∷ 1 ∷ 0 ∷ 0 ∷ 0 ∷ 0
-    ∷ 4 ∷ 0 ∷ 1 ∷ 0 ∷ 3 ∷ 1 ∷ 1 ∷ 0 ∷ 0 ∷ 0 ∷ 0
-    ∷ more
+silentFor0 more = groupOver firstApplicableKind 1 (4 ∷ 0 ∷ 1 ∷ 0 ∷ 3 ∷ 1 ∷ 1 ∷ 0 ∷ 0 ∷ 0 ∷ 0 ∷ more)
 
 -- an empty group for subject 1
 abbrev emptyFor1 : List ℕ → List ℕ
@@ -109,6 +112,21 @@ twoSilent = rootOver onlyOneApplicableKind 4 (silentFor0 (silentFor0 []))
 unfoldable pub emptyBesidePermit : List ℕ
 emptyBesidePermit = rootOver onlyOneApplicableKind 2 (emptyFor1 (permitFor0 []))
 
+-- paper 3, "the root is a rule": a permit rule, with card 1; every maximum is 0
+unfoldable pub ruleRoot : List ℕ
+ruleRoot = 0 ∷ 17 ∷ 1 ∷ 0 ∷ 0 ∷ 0 ∷ 0 ∷ 1 ∷ permitFor0 []
+
+-- "an 'only one' group holds a rule", node 1, before "a group holds rules and groups", node 3, of which the rule comes first
+unfoldable pub twoFaults : List ℕ
+twoFaults =
+    rootOver firstApplicableKind 5
+    (groupOver onlyOneApplicableKind 1 (permitFor0 (groupOver firstApplicableKind 2 (permitFor0 (emptyFor1 [])))))
+
+-- a table of the profile: a group of groups, each of which is a group of rules
+unfoldable pub groupsOfRules : List ℕ
+groupsOfRules =
+    rootOver denyOverridesKind 4 (groupOver firstApplicableKind 1 (permitFor0 (groupOver permitOverridesKind 1 (denyFor1 []))))
+
 -- "bit k stands for figure k": the set of subject k alone
 abbrev pub only : ℕ → ℕ
 only k = 2 ^ k
@@ -117,6 +135,11 @@ only k = 2 ^ k
 pub record GivesRuling (t : List ℕ) (s : ℕ) (others : List ℕ) (n : ℕ) (a : Answer) (list : List ℕ) : Type 0 where
   pub answer : ruling t s others n ≡ a
   pub holds : ruledList t s others n ≡ list
+
+-- By the profile table t gives the set s this answer, and the list then holds this.
+pub record GivesStandard (t : List ℕ) (s : ℕ) (others : List ℕ) (n : ℕ) (a : Answer) (list : List ℕ) : Type 0 where
+  pub answer : rulingStandard t s others n ≡ a
+  pub holds : ruledListStandard t s others n ≡ list
 
 -- Diagram d gives request q this answer, where the list has n places, and the list then holds this.
 pub record GivesLookUp (d q : List ℕ) (n : ℕ) (a : Answer) (list : List ℕ) : Type 0 where
@@ -204,3 +227,26 @@ pub record Cases : Type 0 where
   pub one-counts-for-0 : GivesRuling emptyBesidePermit (only 0) (0 ∷ 0 ∷ []) 1 (ruled permit 1 1) (1 ∷ [])
   pub one-counts-for-1 : GivesRuling emptyBesidePermit (only 1) (0 ∷ 0 ∷ []) 1 (ruled notApplicable 0 1) (0 ∷ [])
   pub two-count-for-both : GivesRuling emptyBesidePermit (only 0 + only 1) (0 ∷ 0 ∷ []) 1 (ruled indeterminate 1 2) (1 ∷ [])
+  -- paper 3, "14 when a group holds rules and groups", "with the lowest such group's node as place": T's root does
+  pub t-mixed : readingStandard (tableT 3) ≡ refused 14 0
+  pub t-mixed-ruled : GivesStandard (tableT 3) (only 0) (0 ∷ 0 ∷ []) 2 (refused 14 0) (0 ∷ 0 ∷ [])
+  -- "15 when an 'only one' group holds a rule": node 1
+  pub rule-in-only-one : readingStandard (overOnlyOne 0) ≡ refused 15 1
+  pub rule-in-only-one-ruled : GivesStandard (overOnlyOne 0) (only 0) (0 ∷ 0 ∷ []) 2 (refused 15 1) (0 ∷ 0 ∷ [])
+  -- "16 when the root is a rule"
+  pub rule-as-root : readingStandard ruleRoot ≡ refused 16 0
+  pub rule-as-root-ruled : GivesStandard ruleRoot (only 0) (0 ∷ 0 ∷ []) 1 (refused 16 0) (0 ∷ [])
+  -- "14 is looked for in all nodes before 15": node 3, though node 1 is an only-one group that holds a rule; "before 13": asked for no subject
+  pub mixed-after-only-one : readingStandard twoFaults ≡ refused 14 3
+  pub mixed-before-13 : GivesStandard twoFaults 0 (0 ∷ 0 ∷ []) 1 (refused 14 3) (0 ∷ [])
+  -- "accept just those": a group of groups of rules, ruled as without the profile; an empty group of each kind
+  pub groups-of-rules : readingStandard groupsOfRules ≡ counted 5
+  pub groups-of-rules-for-0 : GivesStandard groupsOfRules (only 0) (0 ∷ 0 ∷ []) 2 (ruled permit 1 1) (1 ∷ 0 ∷ [])
+  pub groups-of-rules-for-both : GivesStandard groupsOfRules (only 0 + only 1) (0 ∷ 0 ∷ []) 2 (ruled deny 2 2) (1 ∷ 2 ∷ [])
+  pub groups-of-rules-list-of-1 : GivesStandard groupsOfRules (only 0 + only 1) (0 ∷ 0 ∷ []) 1 (refused 10 0) (0 ∷ [])
+  pub groups-of-rules-no-subject : GivesStandard groupsOfRules 0 (0 ∷ 0 ∷ []) 1 (refused 13 0) (0 ∷ [])
+  pub empty-standard :
+      (readingStandard (emptyRoot 0 0 0 0) ≡ counted 1)
+      × (readingStandard (emptyRoot 1 0 0 0) ≡ counted 1)
+      × (readingStandard (emptyRoot 2 0 0 0) ≡ counted 1)
+      × (readingStandard (emptyRoot 3 0 0 0) ≡ counted 1)

@@ -1,8 +1,9 @@
 -- The three demands, as one claim about the definitions that the calls' contracts cite: a field for each clause.
 -- Assumes nothing: these are definitions.
-use mathlib.Core.Bool.{true, false}
-use mathlib.Core.List.{List, _∷_, _++_, map}
+use mathlib.Core.Bool.{Bool, true, false}
+use mathlib.Core.List.{List, [], _∷_, _++_, map}
 use mathlib.Core.Logic.{_↔_}
+use mathlib.Core.Option.{some}
 use mathlib.Core.Path.{_≡_}
 use Prim.Native.Nat.{ℕ, _-_, _^_, _≤_, _<_}
 use lib.ListN.{length, getD, take}
@@ -12,15 +13,22 @@ use Rattle.answer.specs.Refusals.{None, Answers}
 use Rattle.answer.specs.Order.{IsRequest}
 use Rattle.answer.specs.Rulings.{Ruling, answerOf}
 use Rattle.answer.specs.declared.Answer.{Answer}
-use Rattle.table.specs.Layout.{Bytes, maximum, maxima, count, card}
-use Rattle.table.specs.Tree.{Above}
+use Rattle.combining.specs.Kinds.{onlyOneApplicableKind}
+use Rattle.combining.specs.Ways.{notApplicable}
+use Rattle.table.specs.Layout.{Bytes, maximum, maxima, count, kind, card}
+use Rattle.table.specs.Tree.{isRule, Above}
 use Rattle.table.specs.Reading.{tableRefusals, reading, Accepted}
 use Rattle.ruling.specs.Forest.{under, childrenOf, trees}
 use Rattle.ruling.specs.Targets.{targetHolds, applies}
+use Rattle.ruling.specs.Closed.{Closed}
 use Rattle.ruling.specs.Subjects.{mostSubjects, member, appliesToSome, size, AskedWithin}
 use Rattle.ruling.specs.Meaning.{gives, childOf, decision, matches, matching}
 use Rattle.ruling.specs.AsWorded.{decisionAsWorded}
 use Rattle.ruling.specs.Ruling.{groups, groupsTogether, rulingRefusals, ruling, ruledList}
+use Rattle.standard.specs.Profile.{holdsRule, holdsGroup, standardRefusals, Standard, readingStandard}
+use Rattle.standard.specs.RulingStandard.{rulingStandardRefusals, rulingStandard, ruledListStandard}
+use Rattle.standard.specs.AppendixC.{ruleCombining, policyCombining}
+use Rattle.standard.specs.AsPrinted.{rulesOf, policiesOf}
 use Rattle.diagram.specs.Layout.{used}
 use Rattle.diagram.specs.LookUp.{ruledBy}
 use Rattle.diagram.specs.Sound.{Sound}
@@ -64,13 +72,21 @@ nothing = tt
 
 pub record Demands : Type 0 where
   -- Demand 1: "If a table, a diagram, a question or a lent list is faulty or too short in a way document 01 names, the call returns the
-  -- number given there and leaves zeros throughout what it was lent to write", for each of the four calls, the first of which is lent nothing:
+  -- number given there and leaves zeros throughout what it was lent to write", for each of the six calls, of which the readings are lent nothing:
   -- by its refusals in their order, each "returned where its condition holds and none earlier in this order does, and at no other time".
   -- "every call ends, on all inputs, and expects no check made beforehand": each is proved to end, and none has a requirement.
   pub reading-refuses : (t : List ℕ) → Answers (tableRefusals t) refused nothing (counted (count t)) nothing (reading t) nothing
   pub ruling-refuses : (t : List ℕ) (s : ℕ) (others : List ℕ) (n : ℕ) →
       let r = groupsTogether t s others in
       Answers (rulingRefusals t s others n) refused (zeros n) (answerOf r (size s)) (padded (r .cards) n) (ruling t s others n) (ruledList t s others n)
+  -- paper 3, "14 when a group holds rules and groups, 15 when an 'only one' group holds a rule, 16 when the root is a rule", "after all of 1 to 8
+  -- and before 13"
+  pub standard-reading-refuses : (t : List ℕ) →
+      Answers (standardRefusals t) refused nothing (counted (count t)) nothing (readingStandard t) nothing
+  pub standard-ruling-refuses : (t : List ℕ) (s : ℕ) (others : List ℕ) (n : ℕ) →
+      let r = groupsTogether t s others in
+      Answers (rulingStandardRefusals t s others n) refused (zeros n) (answerOf r (size s)) (padded (r .cards) n) (rulingStandard t s others n)
+      (ruledListStandard t s others n)
   pub build-refuses : (t : List ℕ) (n : ℕ) →
       Answers (buildRefusals t n) refused (zeros n) (counted (length (diagramOf t))) (padded (diagramOf t) n) (built t n) (builtDiagram t n)
   pub look-up-refuses : (d q : List ℕ) (n : ℕ) →
@@ -117,6 +133,23 @@ pub record Demands : Type 0 where
       let d = usedPart t room ++ following in
       let a = lookedUp d (k ∷ others) n in
       (ruling t (2 ^ k) others n ≡ ruled (a .decision) (a .count) 1) × (ruledList t (2 ^ k) others n ≡ lookedUpList d (k ∷ others) n)
+  -- paper 3, "Whatever they accept the plain ones accept too, with equal answers": and lists, for every set of subjects
+  pub standard-accepted : (t : List ℕ) → Standard t → Accepted t × (readingStandard t ≡ reading t)
+  pub standard-ruled-alike : (t : List ℕ) (s : ℕ) (others : List ℕ) (n : ℕ) → Standard t →
+      (rulingStandard t s others n ≡ ruling t s others n) × (ruledListStandard t s others n ≡ ruledList t s others n)
+  -- "and there every group of rules combines by appendix C's rule-combining text and every group of groups by its policy-combining text": for any
+  -- test of which nodes apply that is closed, an empty group by both
+  pub rules-as-printed : (t : List ℕ) (a : ℕ → Bool) (i : ℕ) → Standard t → Closed t a → i < count t → holdsRule t i ≡ true →
+      ruleCombining (kind t i) (rulesOf a t i) ≡ some (decision a t i)
+  pub groups-as-printed : (t : List ℕ) (a : ℕ → Bool) (i : ℕ) → Standard t → Closed t a → i < count t → holdsGroup t i ≡ true →
+      policyCombining (kind t i) (policiesOf a t i) ≡ decision a t i
+  pub empty-as-printed : (t : List ℕ) (a : ℕ → Bool) (i : ℕ) → Standard t → Closed t a → i < count t → isRule t i ≡ false → childrenOf t i ≡ [] →
+      (decision a t i ≡ notApplicable)
+      × (policyCombining (kind t i) (policiesOf a t i) ≡ notApplicable)
+      × ((kind t i ≡ onlyOneApplicableKind → ⊥) → ruleCombining (kind t i) (rulesOf a t i) ≡ some notApplicable)
+  -- such a test is that of a set of subjects, and that of one
+  pub sets-closed : (t : List ℕ) (s : ℕ) (others : List ℕ) → Accepted t → Closed t (appliesToSome t s others)
+  pub one-closed : (t q : List ℕ) → Accepted t → Closed t (applies t q)
   -- Demand 3: "Through a diagram built here from any accepted table, in whatever room was lent, any question within the table's fields,
   -- asked with any list long enough for its cards, gets a ruling whose decision, count and list, number for number, are the ones the groups
   -- give to that question". "Any slice that starts with this used part is the same built diagram, whatever follows it". Paper 1: "diagrams

@@ -5,12 +5,16 @@ use answer::Request;
 use building::build;
 use lookup::look_up;
 use ruling::rule;
+use standard::read_standard;
+use standard::rule_standard;
 use table::read;
 ghost use mathlib.Core.Path.{_≡_};
 ghost use mathlib.Core.List.{[], _∷_};
 ghost use lib.ListN.{length};
 ghost use Rattle.table.specs.Reading.{reading};
 ghost use Rattle.ruling.specs.Ruling.{ruling, ruledList};
+ghost use Rattle.standard.specs.Profile.{readingStandard};
+ghost use Rattle.standard.specs.RulingStandard.{rulingStandard, ruledListStandard};
 ghost use Rattle.building.specs.Built.{built, builtDiagram};
 ghost use Rattle.diagram.specs.LookedUp.{lookedUp, lookedUpList};
 
@@ -39,6 +43,33 @@ pub extern "C" fn kolfsein_rule(
         others: [resource, action],
     };
     rule(table, request, cards)
+}
+
+// Reads a table by the convention profile.
+#[no_mangle]
+pub extern "C" fn kolfsein_read_standard(table: &[u8]) -> Answer
+    ensures { λ r. ⌜ r ≡ readingStandard (now (table .entry)) ⌝ }
+{
+    read_standard(table)
+}
+
+// Rules by the convention profile on several subjects that ask together, with the cards of all matching rules.
+#[no_mangle]
+pub extern "C" fn kolfsein_rule_standard(
+    table: &[u8],
+    subjects: u64,
+    resource: u16,
+    action: u16,
+    cards: &mut [u16],
+) -> Answer
+    ensures { λ r. ⌜ r ≡ rulingStandard (now (table .entry)) subjects (resource ∷ action ∷ []) (length (now (cards .entry))) ⌝ }
+    ensures { λ _. ⌜ now (cards .exit) ≡ ruledListStandard (now (table .entry)) subjects (resource ∷ action ∷ []) (length (now (cards .entry))) ⌝ }
+{
+    let request = JointRequest {
+        subjects,
+        others: [resource, action],
+    };
+    rule_standard(table, request, cards)
 }
 
 // Builds the diagram of a table in the room that is lent.

@@ -69,7 +69,7 @@ module _ (a : ℕ → Bool) (t : List ℕ) where
   child-counts : (i d : ℕ) → a i ≡ true → childOf a i d ≡ asChild d true
   child-counts i d e = simp e
 
-  child-absent : (i : ℕ) → a i ≡ false → childOf a i notApplicable ≡ absent
+  pub child-absent : (i : ℕ) → a i ≡ false → childOf a i notApplicable ≡ absent
   child-absent i e = simp e
 
   -- the decision of a node, as the code finds it

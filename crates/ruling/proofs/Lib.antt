@@ -11,6 +11,7 @@ pub mod Steps
 pub mod NodeByKind
 pub mod ChildByChild
 pub mod Members
+pub mod AppliesIsClosed
 pub mod AppliesByParents
 pub mod SubjectsByParents
 pub mod ChildrenByParents
@@ -18,6 +19,7 @@ pub mod DecisionByChildren
 pub mod CardsOfMatchingRules
 pub mod RulingGoesByWhichApply
 pub mod OneSubject
+pub mod InTwoParts
 pub mod WithinTogether
 pub mod DecisionIsOneOfFour
 pub mod AtMost127Cards

@@ -1,10 +1,10 @@
--- Which sets of subjects get a ruling: 13 and 9 apply to none exactly where the set has a member and what each member asks by itself is
--- within the maxima.
+-- Which sets of subjects get a ruling: none of 13, 9 and 10 applies exactly where the set has a member, what each member asks by itself is
+-- within the maxima, and the list is long enough.
 -- Assumes nothing.
 use mathlib.Core.Path.{_≡_, refl, ap₂}
 use mathlib.Core.Bool.{Bool, true, false, not, _||_}
 use mathlib.Core.Logic.{_↔_}
-use mathlib.Core.List.{List, [], _∷_}
+use mathlib.Core.List.{List, _∷_, _++_}
 use Prim.Native.Nat.{ℕ, zero, suc, _-_, _≤_, _<_}
 use native.Mathlib.Omega.{arith}
 use borrow.Author.Tests.{le-ltb, ltb-false, not-false}
@@ -13,16 +13,16 @@ use lib.ListN.{length}
 use Rattle.answer.specs.Below.{someBelow}
 use Rattle.answer.specs.Fields.{fields}
 use Rattle.answer.specs.Requests.{value, Within, WithinFrom}
-use Rattle.answer.specs.Refusals.{None}
-use Rattle.answer.specs.Rulings.{requestRefusals}
+use Rattle.answer.specs.Answers.{refused, zeros, padded}
+use Rattle.answer.specs.Refusals.{Refusal, None}
+use Rattle.answer.specs.Rulings.{answerOf}
 use Rattle.answer.proofs.Below.{some-where, some-one}
 use Rattle.answer.proofs.Tests.{neither}
-use Rattle.answer.proofs.Settling.{all-join, all-parts}
+use Rattle.answer.proofs.Settling.{all-join, all-parts, answers}
 use Rattle.answer.proofs.RequestRefusals.{within-none, none-within}
 use Rattle.table.specs.Layout.{maximum}
-use Rattle.table.specs.Reading.{tableRefusals, Accepted}
-use Rattle.ruling.specs.Subjects.{mostSubjects, member, someMember, subjectsFault, AskedWithin}
-use Rattle.ruling.specs.Ruling.{groupsTogether, subjectsRefusal, askedRefusals, rulingRefusals}
+use Rattle.ruling.specs.Subjects.{mostSubjects, member, someMember, size, subjectsFault, AskedWithin}
+use Rattle.ruling.specs.Ruling.{groupsTogether, askedRefusals, ruledAfter, listedAfter}
 use Rattle.ruling.proofs.Members.{no-member}
 
 -- 13 does not apply exactly where the set has a member and each is at most the maximum
@@ -70,22 +70,33 @@ module _ (t : List ℕ) (s : ℕ) (others : List ℕ) where
       within k l zero m = l
       within k l (suc f) m = w (suc f) (omega arith) m
 
-  -- no refusal applies exactly where the table is accepted, the set asks within its maxima and the list is long enough
+  -- none of 13, 9 and 10 applies exactly where the set asks within the table's maxima and the list is long enough
+  module _ (n : ℕ) where
+    abbrev LongEnough : Type 0
+    LongEnough = length (groupsTogether t s others .cards) ≤ n
 
-  pub asked-none : Accepted t → AskedWithin (maximum t) s others → None (askedRefusals t s)
-  asked-none c a = all-join (λ r. r .when ≡ false) (tableRefusals t) (subjectsRefusal t s ∷ []) c (asked-passes a .0, tt)
+    pub asked-none : AskedWithin (maximum t) s others → LongEnough → None (askedRefusals t s others n)
+    asked-none a l =
+        let p = asked-passes a in (p .0, within-none (maximum t) (0 ∷ others) 1 (lit≤ tt) (groupsTogether t s others) n (p .1) l)
 
-  pub ruled-exactly : (n : ℕ) → length others ≡ fields - 1 →
-      None (rulingRefusals t s others n) ↔ (Accepted t × (AskedWithin (maximum t) s others × (length (groupsTogether t s others .cards) ≤ n)))
-  ruled-exactly n e =
-      let r = groupsTogether t s others in
-      let request = requestRefusals (maximum t) (0 ∷ others) 1 r n in (
-        λ none.
-            let p = all-parts (λ r. r .when ≡ false) (askedRefusals t s) request none in
-            let a = all-parts (λ r. r .when ≡ false) (tableRefusals t) (subjectsRefusal t s ∷ []) (p .0) in
-            let w = none-within (maximum t) (0 ∷ others) 1 (lit≤ tt) r n (p .1) in
-            (a .0, (passes-asked e (a .1 .0) (w .0), w .1)),
-        λ h.
-            all-join (λ r. r .when ≡ false) (askedRefusals t s) request (asked-none (h .0) (h .1 .0))
-            (within-none (maximum t) (0 ∷ others) 1 (lit≤ tt) r n (asked-passes (h .1 .0) .1) (h .1 .1)),
+    pub none-asked : length others ≡ fields - 1 → None (askedRefusals t s others n) → AskedWithin (maximum t) s others × LongEnough
+    none-asked e none =
+        let w = none-within (maximum t) (0 ∷ others) 1 (lit≤ tt) (groupsTogether t s others) n (none .1) in (passes-asked e (none .0) (w .0), w .1)
+
+    -- after other refusals, of which none applies
+    module _ (before : List Refusal) where
+      pub ruled-exactly : length others ≡ fields - 1 →
+          None (before ++ askedRefusals t s others n) ↔ (None before × (AskedWithin (maximum t) s others × LongEnough))
+      ruled-exactly e = (
+        λ none. let p = all-parts (λ r. r .when ≡ false) before (askedRefusals t s others n) none in (p .0, none-asked e (p .1)),
+        λ h. all-join (λ r. r .when ≡ false) before (askedRefusals t s others n) (h .0) (asked-none (h .1 .0) (h .1 .1)),
       )
+
+      pub within-answered : None before → AskedWithin (maximum t) s others → LongEnough →
+          let r = groupsTogether t s others in
+          let refusals = before ++ askedRefusals t s others n in
+          (ruledAfter refusals t s others ≡ answerOf r (size s)) × (listedAfter refusals t s others n ≡ padded (r .cards) n)
+      within-answered none a l =
+          let r = groupsTogether t s others in
+          answers refused (zeros n) (answerOf r (size s)) (padded (r .cards) n) (before ++ askedRefusals t s others n) .succeeds
+          (all-join (λ r. r .when ≡ false) before (askedRefusals t s others n) none (asked-none a l))

@@ -1,5 +1,6 @@
 pub mod Forest
 pub mod Targets
+pub mod Closed
 pub mod Subjects
 pub mod Meaning
 pub mod AsWorded

@@ -3,4 +3,6 @@ pub mod groups;
 mod ruling;
 pub mod targets;
 
+pub use ruling::for_subjects;
 pub use ruling::rule;
+pub use ruling::rule_accepted;

@@ -4,7 +4,7 @@ use std::fmt::Debug;
 use std::iter;
 use std::sync::Mutex;
 
-use kolfsein::{Decision, JointRequest, Reason, Refusal, Request, Subjects};
+use kolfsein::{Decision, JointRequest, JointRuling, Reason, Refusal, Request, Subjects};
 
 use crate::evaluator::{Due, Joint, Refused, Ruled, Values, MOST_SUBJECTS};
 
@@ -12,9 +12,12 @@ use crate::evaluator::{Due, Joint, Refused, Ruled, Values, MOST_SUBJECTS};
 const MARK: u16 = 0xA5A5;
 const AROUND: usize = 4;
 
+/// Numbers of answers, 0 or a refusal's, are below this.
+const NUMBERS: usize = 17;
+
 /// How many tests compare, and how many comparisons all of them make at least.
-const TESTS: usize = 16;
-const COMPARISONS: u64 = 500_000_000;
+const TESTS: usize = 21;
+const COMPARISONS: u64 = 540_000_000;
 
 /// What the tests that ended did.
 static ENDED: Mutex<Ended> = Mutex::new(Ended {
@@ -29,12 +32,16 @@ struct Ended {
     comparisons: u64,
 }
 
+/// A call that reads a table, and one that rules by it: the plain one, or that of the profile.
+type Read = fn(&[u8]) -> Result<usize, Refusal>;
+type Rule = fn(&[u8], JointRequest, &mut [u16]) -> Result<JointRuling, Refusal>;
+
 pub struct Compare {
     test: &'static str,
     case: (&'static str, usize),
     comparisons: u64,
     /// How often each number, 0 or a refusal's, and each decision was due.
-    numbers: [u64; 14],
+    numbers: [u64; NUMBERS],
     decisions: [u64; 4],
     /// How often indeterminate was due with no card, and with one.
     silent: [u64; 2],
@@ -49,7 +56,7 @@ impl Compare {
             test,
             case: ("case", 0),
             comparisons: 0,
-            numbers: [0; 14],
+            numbers: [0; NUMBERS],
             decisions: [0; 4],
             silent: [0; 2],
             sizes: [0; 1 + MOST_SUBJECTS as usize],
@@ -63,10 +70,11 @@ impl Compare {
     }
 
     pub fn reads(&mut self, bytes: &[u8], due: &Due) {
-        let table = bytes.to_vec();
-        let answer = kolfsein::read(&table);
-        self.counted(answer, due);
-        self.stays(&table, bytes);
+        self.reads_by(kolfsein::read, bytes, due);
+    }
+
+    pub fn reads_standard(&mut self, bytes: &[u8], due: &Due) {
+        self.reads_by(kolfsein::read_standard, bytes, due);
     }
 
     /// Rules with each of some lists.
@@ -79,6 +87,19 @@ impl Compare {
     ) {
         for places in lists {
             self.rules(bytes, joint, places, &Due::ruled(ruled, joint, places));
+        }
+    }
+
+    /// Rules by the profile with each of some lists.
+    pub fn rules_standard_with(
+        &mut self,
+        bytes: &[u8],
+        joint: &Joint,
+        ruled: &Result<Ruled, Refused>,
+        lists: impl IntoIterator<Item = usize>,
+    ) {
+        for places in lists {
+            self.rules_standard(bytes, joint, places, &Due::ruled(ruled, joint, places));
         }
     }
 
@@ -109,10 +130,25 @@ impl Compare {
 
     /// Rules with a list of so many places.
     pub fn rules(&mut self, bytes: &[u8], joint: &Joint, places: usize, due: &Due) {
+        self.rules_by(kolfsein::rule, bytes, joint, places, due);
+    }
+
+    /// Rules by the profile with a list of so many places.
+    pub fn rules_standard(&mut self, bytes: &[u8], joint: &Joint, places: usize, due: &Due) {
+        self.rules_by(kolfsein::rule_standard, bytes, joint, places, due);
+    }
+
+    fn reads_by(&mut self, call: Read, bytes: &[u8], due: &Due) {
+        let table = bytes.to_vec();
+        let answer = call(&table);
+        self.counted(answer, due);
+        self.stays(&table, bytes);
+    }
+
+    fn rules_by(&mut self, call: Rule, bytes: &[u8], joint: &Joint, places: usize, due: &Due) {
         let table = bytes.to_vec();
         let request = asked_together(joint);
-        let call = |list: &mut [u16]| kolfsein::rule(&table, request, list);
-        let (answer, list) = self.lend(places, call);
+        let (answer, list) = self.lend(places, |list| call(&table, request, list));
         self.ruled(answer.map(|given| (given.decision, given.count)), due);
         let subjects = answer.map_or(0, |given| given.subjects);
         self.same("subjects", subjects, due.subjects);
@@ -307,5 +343,8 @@ fn number(reason: Reason) -> u8 {
         Reason::Room => 11,
         Reason::Diagram => 12,
         Reason::Subjects => 13,
+        Reason::MixedGroup => 14,
+        Reason::RuleInOnlyOne => 15,
+        Reason::RuleAsRoot => 16,
     }
 }

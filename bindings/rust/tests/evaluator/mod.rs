@@ -1,6 +1,8 @@
 //! A plain evaluator of tables and diagrams, written from the requirements alone. It uses nothing of the library.
 
 mod diagram;
+mod printed;
+mod profile;
 mod reader;
 mod ruling;
 mod walk;
@@ -137,6 +139,12 @@ impl Due {
 /// What a table gives a set, or the first of refusals 1 to 8, 13 and 9.
 pub fn rule(table: &Result<Table, Refused>, joint: &Joint) -> Result<Ruled, Refused> {
     table.as_ref().map_err(|&refused| refused)?.rule(joint)
+}
+
+/// What a table gives a set by the profile, where that accepts it, or the first of refusals 1 to 8, 14 to 16, 13 and 9.
+pub fn rule_standard(standard: &Result<Table, Refused>, joint: &Joint) -> Result<Ruled, Refused> {
+    let table = standard.as_ref().map_err(|&refused| refused)?;
+    table.rule_standard(joint)
 }
 
 /// The diagram of a table, or the first of refusals 1 to 8.

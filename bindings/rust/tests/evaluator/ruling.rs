@@ -14,9 +14,21 @@ struct Child {
     counts: bool,
 }
 
+/// What a node gives, where these nodes apply.
+type Decide = fn(&Table, usize, &[bool]) -> u8;
+
 impl Table {
     /// What the groups give a set, or refusal 13 or 9.
     pub fn rule(&self, joint: &Joint) -> Result<Ruled, Refused> {
+        self.rule_by(joint, Table::decision)
+    }
+
+    /// The same of a table of the profile, by the algorithms of appendix C.
+    pub fn rule_standard(&self, joint: &Joint) -> Result<Ruled, Refused> {
+        self.rule_by(joint, Table::as_printed)
+    }
+
+    fn rule_by(&self, joint: &Joint, decide: Decide) -> Result<Ruled, Refused> {
         let members = &joint.members;
         // "13 when the party is empty or names a figure above the who maximum"
         if members.is_empty() || members.iter().any(|&member| member > self.maxima[0]) {
@@ -25,16 +37,15 @@ impl Table {
         within(&joint.others, self.maxima)?;
         // "A node holds for the party exactly when at least one member by itself meets its target and every target
         // above it"
-        Ok(self.given(|node| {
-            let meets = |&member: &u16| self.applies(node, joint.asked_by(member));
-            members.iter().any(meets)
-        }))
+        let meets = |node: &Node, member| self.applies(node, joint.asked_by(member));
+        let applies = |node: &Node| members.iter().any(|&member| meets(node, member));
+        Ok(self.given(applies, decide))
     }
 
     /// What the groups give a request of one subject, or refusal 9.
     pub fn rule_one(&self, values: Values) -> Result<Ruled, Refused> {
         within(&values, self.maxima)?;
-        Ok(self.given(|node| self.applies(node, values)))
+        Ok(self.given(|node| self.applies(node, values), Table::decision))
     }
 
     /// "Two tables with the same maxima rule alike when the groups give, for every question within them, the same
@@ -52,12 +63,12 @@ impl Table {
     }
 
     /// The decision of the root, and the cards of all matching rules, where these nodes apply.
-    fn given(&self, applies: impl Fn(&Node) -> bool) -> Ruled {
+    fn given(&self, applies: impl Fn(&Node) -> bool, decide: Decide) -> Ruled {
         let applies: Vec<bool> = self.nodes.iter().map(applies).collect();
         let nodes = self.nodes.iter().zip(&applies);
         let matching = nodes.filter(|(node, &applies)| node.is_rule() && applies);
         Ruled {
-            decision: self.decision(0, &applies),
+            decision: decide(self, 0, &applies),
             cards: matching.map(|(node, _)| node.card).collect(),
         }
     }

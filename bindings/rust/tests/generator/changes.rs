@@ -54,7 +54,7 @@ pub const CHANGES: [(&str, Moves, Change); 16] = [
 ];
 
 /// Some node of which a test holds.
-fn pick(random: &mut Random, outline: &Outline, test: impl Fn(usize) -> bool) -> Option<usize> {
+pub fn pick(random: &mut Random, outline: &Outline, test: impl Fn(usize) -> bool) -> Option<usize> {
     let found: Vec<usize> = (0..outline.nodes.len())
         .filter(|&node| test(node))
         .collect();
@@ -71,7 +71,7 @@ fn pick_under(random: &mut Random, outline: &Outline, group: bool) -> Option<usi
     pick(random, outline, is_one)
 }
 
-fn any_group_kind(random: &mut Random) -> u8 {
+pub fn any_group_kind(random: &mut Random) -> u8 {
     random.of(&[0, 1, 2, 3])
 }
 
@@ -122,12 +122,8 @@ fn dissolve(random: &mut Random, outline: &mut Outline) -> Option<()> {
 fn split(random: &mut Random, outline: &mut Outline) -> Option<()> {
     let place = pick_under(random, outline, true)?;
     let group = outline.nodes[place];
-    let end = place + outline.span(place);
-    let children = place + 1..end;
-    let mut parts: Vec<usize> = children
-        .filter(|&under| outline.nodes[under].level == group.level + 1)
-        .collect();
-    parts.push(end);
+    let mut parts = outline.children(place);
+    parts.push(place + outline.span(place));
     outline.nodes.insert(random.of(&parts), group);
     Some(())
 }

@@ -69,12 +69,27 @@ impl Outline {
         1 + after.take_while(|under| under.level > level).count()
     }
 
+    /// The children of a node.
+    pub fn children(&self, node: usize) -> Vec<usize> {
+        let level = self.nodes[node].level + 1;
+        let under = node + 1..node + self.span(node);
+        under
+            .filter(|&under| self.nodes[under].level == level)
+            .collect()
+    }
+
+    /// The place of a node's parent; the root has none.
+    pub fn place_above(&self, node: usize) -> Option<usize> {
+        let level = self.nodes[node].level;
+        (0..node)
+            .rev()
+            .find(|&above| self.nodes[above].level < level)
+    }
+
     /// The parent of a node that is not the root.
     pub fn parent(&self, node: usize) -> &Node {
-        let level = self.nodes[node].level;
-        let before = self.nodes[..node].iter();
-        let above = before.rev().find(|above| above.level < level);
-        above.expect("a node above all but the root")
+        let above = self.place_above(node);
+        &self.nodes[above.expect("a node above all but the root")]
     }
 
     /// A group more before a node, with ranges that hold every value.

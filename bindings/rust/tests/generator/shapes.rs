@@ -48,6 +48,29 @@ pub fn nested() -> Outline {
     outline
 }
 
+/// As many nodes as a table has, of the convention profile, down to level 8: a path of groups to four rules, and then 39
+/// groups, each over two rules or over two empty groups. Every third node is not for subject 0, nor the next for 1.
+pub fn full_standard() -> Outline {
+    let mut levels: Vec<(usize, bool)> = (1..=7).map(|level| (level, true)).collect();
+    levels.extend([(8, false); 4]);
+    for turn in 0..39 {
+        let under = (3, turn % 3 == 0);
+        levels.extend([(2, true), under, under]);
+    }
+    let mut outline = Outline::new([2, 0, 0]);
+    for (node, (level, group)) in (0..).zip(levels) {
+        let kind = if group {
+            [3, 0, 2][level % 3]
+        } else {
+            4 + node % 2
+        };
+        let card = if group { 0 } else { u16::from(node) };
+        let low = [0, 0, 1, 0, 0, 2][usize::from(node) % 6];
+        outline.add(level, kind, card, [(low, 2), (0, 0), (0, 0)]);
+    }
+    outline
+}
+
 /// Of a group over a rule to permit and a rule to deny: whether the group applies, and whether each rule does.
 pub type Child = [bool; 3];
 

@@ -1,6 +1,6 @@
 //! Tables that are accepted, and tables that most often are not.
 
-use super::{damage::damage_table, Maxima, Outline, Random};
+use super::{damage::damage_table, outline::Ranges, Maxima, Outline, Random};
 use crate::evaluator::FIELDS;
 
 pub const HARBOUR: &[u8] = include_bytes!("../../../../examples/harbour.table");
@@ -44,6 +44,16 @@ pub fn small_table(random: &mut Random, maxima: Maxima) -> Outline {
     grown(random, maxima, nodes, 4)
 }
 
+/// A table of the convention profile, of at most so many nodes: its root is a group, every group holds rules alone, groups
+/// alone or nothing, and only-one groups hold no rule.
+pub fn standard_table(random: &mut Random, maxima: Maxima, most: usize) -> Outline {
+    let nodes = any_count(random, most);
+    let levels = random.of(&[2, 3, 5, 8, 8]);
+    let mut growth = Growth::new(random, maxima, levels);
+    growth.grow_standard(nodes, 1);
+    growth.outline
+}
+
 /// A table with up to three pieces of damage, or with too many nodes or levels.
 pub fn damaged_table(random: &mut Random, maxima: Maxima) -> Vec<u8> {
     let (most, levels) = random.of(&[(128, 8), (128, 8), (128, 8), (128, 12), (131, 9)]);
@@ -66,14 +76,7 @@ fn any_count(random: &mut Random, most: usize) -> usize {
 
 /// So many nodes on at most so many levels.
 fn grown(random: &mut Random, maxima: Maxima, nodes: usize, levels: usize) -> Outline {
-    let mut growth = Growth {
-        outline: Outline::new(maxima),
-        levels,
-        parting: random.below(4),
-        groups_seldom: random.of(&[1, 2, 4, 8]),
-        rules_seldom: random.of(&[1, 2, 4, 8]),
-        random,
-    };
+    let mut growth = Growth::new(random, maxima, levels);
     growth.grow(nodes, 1);
     growth.outline
 }
@@ -90,18 +93,46 @@ struct Growth<'a> {
 }
 
 impl Growth<'_> {
+    fn new(random: &mut Random, maxima: Maxima, levels: usize) -> Growth<'_> {
+        Growth {
+            outline: Outline::new(maxima),
+            levels,
+            parting: random.below(4),
+            groups_seldom: random.of(&[1, 2, 4, 8]),
+            rules_seldom: random.of(&[1, 2, 4, 8]),
+            random,
+        }
+    }
+
     /// Adds a node on a level and all under it: so many nodes.
     fn grow(&mut self, nodes: usize, level: usize) {
-        let group = nodes > 1 || self.random.one_in(8);
-        let (kind, card, seldom) = if group {
-            (self.random.of(&[0, 1, 1, 2, 3]), 0, self.groups_seldom)
+        if nodes > 1 || self.random.one_in(8) {
+            self.add_group(level, &[0, 1, 1, 2, 3]);
         } else {
-            (self.random.of(&[4, 5]), self.card(), self.rules_seldom)
-        };
-        let ranges = self.outline.maxima;
-        let ranges = ranges.map(|most| self.range(most, seldom));
-        self.outline.add(level, kind, card, ranges);
-        let mut left = nodes - 1;
+            self.add_rule(level);
+        }
+        self.part(nodes - 1, level, Growth::grow);
+    }
+
+    /// The same of a group of the convention profile.
+    fn grow_standard(&mut self, nodes: usize, level: usize) {
+        let under = nodes - 1;
+        let often = if under < 6 { 2 } else { 5 };
+        let last = level + 1 >= self.levels;
+        if under > 0 && (self.random.one_in(often) || last && !self.random.one_in(8)) {
+            self.add_group(level, &[0, 2, 3]);
+            for _ in 0..under {
+                self.add_rule(level + 1);
+            }
+        } else {
+            self.add_group(level, &[0, 1, 1, 2, 3]);
+            self.part(under, level, Growth::grow_standard);
+        }
+    }
+
+    /// Parts so many nodes under a node of a level, each part one child with all under it.
+    fn part(&mut self, nodes: usize, level: usize, grow: fn(&mut Self, usize, usize)) {
+        let mut left = nodes;
         while left > 0 {
             let part = match self.parting {
                 _ if level + 1 >= self.levels => 1,
@@ -110,9 +141,23 @@ impl Growth<'_> {
                 2 => 1 + self.random.below(left),
                 _ => left,
             };
-            self.grow(part, level + 1);
+            grow(self, part, level + 1);
             left -= part;
         }
+    }
+
+    /// Adds a group of one of some kinds.
+    fn add_group(&mut self, level: usize, kinds: &[u8]) {
+        let kind = self.random.of(kinds);
+        let ranges = self.ranges(self.groups_seldom);
+        self.outline.add(level, kind, 0, ranges);
+    }
+
+    fn add_rule(&mut self, level: usize) {
+        let kind = self.random.of(&[4, 5]);
+        let card = self.card();
+        let ranges = self.ranges(self.rules_seldom);
+        self.outline.add(level, kind, card, ranges);
     }
 
     fn card(&mut self) -> u16 {
@@ -122,6 +167,11 @@ impl Growth<'_> {
             _ => 1 + self.random.below(6),
         };
         card as u16
+    }
+
+    fn ranges(&mut self, seldom: usize) -> Ranges {
+        let maxima = self.outline.maxima;
+        maxima.map(|most| self.range(most, seldom))
     }
 
     fn range(&mut self, most: u8, seldom: usize) -> (u8, u8) {

@@ -1,0 +1,53 @@
+// Rulings by a table that several calls give: seeing that they agree, on refusals too.
+#pragma once
+
+#include <algorithm>
+#include <array>
+#include <cstddef>
+#include <cstdint>
+#include <vector>
+
+#include "common.hpp"
+
+// A joint request of which any subject and any value may be one over its maximum, and of no subject too.
+inline tables::JointRequest any_request(tables::Random &random, const Table &table) {
+    const unsigned subjects = std::min(table.bytes[3] + 2u, 64u);
+    return {tables::some_subjects(random, random.below(subjects + 1), subjects),
+            static_cast<uint16_t>(random.below(table.bytes[4] + 2u)),
+            static_cast<uint16_t>(random.below(table.bytes[5] + 2u))};
+}
+
+// All calls must agree on a request, in the answer and in the list; the answer.
+inline kolfsein_answer agreed(const std::vector<Rule> &calls, const tables::Bytes &table,
+                              const tables::JointRequest &request, size_t room) {
+    Numbers list(room, 1), other;
+    const kolfsein_answer answer = ask(calls[0], table, request, list);
+    for (size_t i = 1; i < calls.size(); ++i) {
+        other.assign(room, 2);
+        expect(same(answer, ask(calls[i], table, request, other)) && same(list, other), "a ruling");
+    }
+    return answer;
+}
+
+// How often each number is answered, 0 or a refusal's.
+using Answered = std::array<size_t, KOLFSEIN_RULE_AS_ROOT + 1>;
+
+using Damage = void (*)(tables::Random &, tables::Bytes &);
+
+// The same on refusals: tables that were damaged, any subjects and values, and lists of any length.
+inline Answered agreed_on_damaged(const std::vector<Rule> &calls, const Table &table, Damage damage) {
+    tables::Random random(11);
+    Answered answered = {};
+    for (int i = 0; i < 5000; ++i) {
+        tables::Bytes damaged = table.bytes;
+        damage(random, damaged);
+        const tables::JointRequest request = any_request(random, table);
+        ++answered[agreed(calls, damaged, request, random.below(16)).number];
+    }
+    return answered;
+}
+
+// One byte becomes any.
+inline void change_byte(tables::Random &random, tables::Bytes &bytes) {
+    bytes[random.below(static_cast<unsigned>(bytes.size()))] = static_cast<uint8_t>(random.below(256));
+}

@@ -1,0 +1,5 @@
+pub mod Profile
+pub mod RulingStandard
+pub mod AppendixC
+pub mod AsPrinted
+pub mod Pass
