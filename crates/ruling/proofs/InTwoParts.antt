@@ -3,11 +3,17 @@
 use mathlib.Core.Path.{_≡_, sym, ap, _∙_}
 use mathlib.Core.Bool.{false, cond}
 use mathlib.Core.Logic.{⊎-elim}
-use mathlib.Core.List.{List, [], _∷_, _++_}
+use mathlib.Core.List.{List, [], _∷_, _++_, map}
 use Prim.Native.Nat.{ℕ, _-_, _<_}
 use native.Mathlib.Omega.{arith}
+use mir.Syntax.{w16}
+use mir.Val.{Val}
+use denote.Laws.{Is}
+use denote.Array.{Array}
 use borrow.Author.Tests.{ne-eqb}
+use borrow.Kind.Array.{eInt, good-length}
 use lib.Dec.{eqb, lit<}
+use lib.ListN.{length, length-map}
 use Rattle.answer.specs.Answers.{refused, ruled, zeros, padded}
 use Rattle.answer.specs.Refusals.{Refusal, row, None, First}
 use Rattle.answer.specs.Fields.{fields}
@@ -18,6 +24,11 @@ use Rattle.answer.proofs.Settling.{all-join, all-upward, all-first, first-or-no
 use Rattle.table.specs.Layout.{maximum}
 use Rattle.ruling.specs.Subjects.{size}
 use Rattle.ruling.specs.Ruling.{groupsTogether, askedRefusals, ruledAfter, listedAfter, forSubjects}
+
+-- a request has a value for each field but the subject
+pub others-counted : (others : List ℕ) {vs : List Val} → Is (Array ((eInt w16) .ty) (fields - 1)) (map (λ v. v) others) vs → length others ≡ fields - 1
+others-counted others {vs} h =
+    let n = good-length (eInt w16) (fields - 1) (map (λ v. v) others) vs h in omega (arith, n, length-map others (λ v. v))
 
 -- no refusal of what is asked has number 0
 asked-numbered : (t : List ℕ) (s : ℕ) (others : List ℕ) (n : ℕ) → Numbered (askedRefusals t s others n)

@@ -15,8 +15,8 @@ ghost use Prim.Native.Nat.{_-_};
 ghost use lib.ListN.{length};
 ghost use Rattle.answer.specs.Answers.{zeros};
 ghost use Rattle.answer.specs.Fields.{fields};
-ghost use Rattle.table.specs.WellFormed.{WellFormed};
 ghost use Rattle.answer.specs.Rulings.{ruledOr};
+ghost use Rattle.table.specs.WellFormed.{WellFormed};
 ghost use Rattle.ruling.specs.Subjects.{size};
 ghost use Rattle.ruling.specs.Ruling.{groupsTogether, askedRefusals, forSubjects, listedAfter, ruling, ruledList};
 

@@ -1,4 +1,4 @@
--- Refusals 1 to 8 and then 14 to 16: what a table of the profile passes, and what a reading by the profile tells.
+-- Refusals 1 to 8 and then 14 to 16: what a table of the profile passes, and what the profile's answer of an accepted table tells.
 -- Assumes nothing.
 use mathlib.Core.Path.{_≡_, refl, sym, ap, _∙_}
 use mathlib.Core.Bool.{false}

@@ -48,27 +48,24 @@ policyGives d p = eqb d (p .gives)
 abbrev pub decides : ℕ → Bool
 decides d = eqb permit d || eqb deny d || eqb indeterminate d
 
--- Rule-combining, "Deny-overrides. A rule that gives D ends it: D. [..] At the end: I if a rule with the effect deny gave I; else P if any gave P;
--- else I if any gave I; else N."
-abbrev pub ruleDenyOverrides : List Rule → ℕ
-ruleDenyOverrides rs =
-    endedBy (ruleGives deny) (λ r. deny)
-    (cond (anyOf (λ r. ruleGives indeterminate r && eqb deny (r .effect)) rs) indeterminate
-    (cond (anyOf (ruleGives permit) rs) permit
+-- Rule-combining, where the effect w overrides the other, o: "A rule that gives [w] ends it: [w]. [..] At the end: I if a rule with the effect [w] gave
+-- I; else [o] if any gave [o]; else I if any gave I; else N."
+abbrev pub ruleOverrides : ℕ → ℕ → List Rule → ℕ
+ruleOverrides w o rs =
+    endedBy (ruleGives w) (λ r. w)
+    (cond (anyOf (λ r. ruleGives indeterminate r && eqb w (r .effect)) rs) indeterminate
+    (cond (anyOf (ruleGives o) rs) o
     (cond (anyOf (ruleGives indeterminate) rs) indeterminate
     notApplicable)))
     rs
 
--- "Permit-overrides. A rule that gives P ends it: P. [..] At the end: I if a rule with the effect permit gave I; else D if any gave D; else I if any
--- gave I; else N."
+-- "Deny-overrides. A rule that gives D ends it: D. [..] At the end: I if a rule with the effect deny gave I; else P if any gave P; else [..]"
+abbrev pub ruleDenyOverrides : List Rule → ℕ
+ruleDenyOverrides rs = ruleOverrides deny permit rs
+
+-- "Permit-overrides. A rule that gives P ends it: P. [..] At the end: I if a rule with the effect permit gave I; else D if any gave D; else [..]"
 abbrev pub rulePermitOverrides : List Rule → ℕ
-rulePermitOverrides rs =
-    endedBy (ruleGives permit) (λ r. permit)
-    (cond (anyOf (λ r. ruleGives indeterminate r && eqb permit (r .effect)) rs) indeterminate
-    (cond (anyOf (ruleGives deny) rs) deny
-    (cond (anyOf (ruleGives indeterminate) rs) indeterminate
-    notApplicable)))
-    rs
+rulePermitOverrides rs = ruleOverrides permit deny rs
 
 -- "First-applicable. The first rule that gives P, D or I ends it with that; N goes on to the next; at the end N."
 abbrev pub ruleFirstApplicable : List Rule → ℕ

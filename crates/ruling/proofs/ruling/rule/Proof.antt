@@ -1,19 +1,15 @@
 -- `ruling::ruling::rule` meets its contract: a table that is turned away, or what an accepted one is asked.
 -- Assumes nothing.
 use mathlib.Core.Path.{sym, ap, _∙_}
-use mathlib.Core.List.{List, map}
-use Prim.Native.Nat.{ℕ, _-_}
-use native.Mathlib.Omega.{arith}
-use mir.Syntax.{w16}
+use mathlib.Core.List.{List}
+use Prim.Native.Nat.{ℕ}
 use borrow.Author.Needs.{needs}
-use borrow.Kind.Array.{eInt, good-length}
-use lib.ListN.{length, length-map}
+use lib.ListN.{length}
 use Rattle.answer.specs.Answers.{zeros}
-use Rattle.answer.specs.Fields.{fields}
 use Rattle.table.specs.Reading.{tableRefusals, Accepted}
 use Rattle.table.proofs.Accepting.{read-accepted, read-refused}
 use Rattle.table.proofs.AcceptedIsWellFormed.{well-formed}
-use Rattle.ruling.proofs.InTwoParts.{turned-away, asked-then}
+use Rattle.ruling.proofs.InTwoParts.{others-counted, turned-away, asked-then}
 use Rattle.ruling.proofs.ruling.rule.Statement.{statement}
 use Rattle.ruling.proofs.ruling.rule.Tie as tie
 
@@ -51,8 +47,8 @@ rule-accepted-requires : tie.Need-rule-accepted-requires
 rule-accepted-requires c κs =
     let e = c .before .before .before in
     let s = cleared (e .before) in
-    let n = good-length (eInt w16) (fields - 1) (map (λ v. v) (others s)) _ (s .before .before .before .before .good .1 .0 .1 .1 .1 .0) in (
-      (well-formed (table s) (accepted e), omega (arith, n, length-map (others s) (λ v. v))),
+    let n = others-counted (others s) (s .before .before .before .before .good .1 .0 .1 .1 .1 .0) in (
+      (well-formed (table s) (accepted e), n),
       s .clear .ensures ∙ ap zeros (sym (s .clear .kept .0)),
     )
 

@@ -1,20 +1,16 @@
 -- `standard::standard::rule_standard` meets its contract: a table that is refused, one that the profile refuses, or what one of the profile is asked.
 -- Assumes nothing.
 use mathlib.Core.Path.{sym, ap, _∙_}
-use mathlib.Core.List.{List, map}
-use Prim.Native.Nat.{ℕ, _-_}
-use native.Mathlib.Omega.{arith}
-use mir.Syntax.{w16}
+use mathlib.Core.List.{List}
+use Prim.Native.Nat.{ℕ}
 use borrow.Author.Needs.{needs}
-use borrow.Kind.Array.{eInt, good-length}
-use lib.ListN.{length, length-map}
+use lib.ListN.{length}
 use Rattle.answer.specs.Answers.{zeros}
-use Rattle.answer.specs.Fields.{fields}
 use Rattle.answer.proofs.Settling.{first-in}
 use Rattle.table.specs.Reading.{tableRefusals, Accepted}
 use Rattle.table.proofs.Accepting.{read-accepted, read-refused}
 use Rattle.table.proofs.AcceptedIsWellFormed.{well-formed}
-use Rattle.ruling.proofs.InTwoParts.{turned-away, asked-then}
+use Rattle.ruling.proofs.InTwoParts.{others-counted, turned-away, asked-then}
 use Rattle.standard.specs.Profile.{profileRefusals, standardRefusals, Standard}
 use Rattle.standard.proofs.Accepting.{standard-accepted, profile-passes, profile-refuses}
 use Rattle.standard.proofs.standard.rule_standard.Statement.{statement}
@@ -77,8 +73,8 @@ rule-accepted-requires : tie.Need-rule-accepted-requires
 rule-accepted-requires c κs =
     let e = c .before .before .before in
     let s = cleared (read (e .before) .before) in
-    let n = good-length (eInt w16) (fields - 1) (map (λ v. v) (others s)) _ (s .before .before .before .before .good .1 .0 .1 .1 .1 .0) in (
-      (well-formed (table s) (standard-accepted (table s) (standard e)), omega (arith, n, length-map (others s) (λ v. v))),
+    let n = others-counted (others s) (s .before .before .before .before .good .1 .0 .1 .1 .1 .0) in (
+      (well-formed (table s) (standard-accepted (table s) (standard e)), n),
       s .clear .ensures ∙ ap zeros (sym (s .clear .kept .0)),
     )
 
