@@ -11,8 +11,11 @@ use Rattle.answer.specs.Below.{everyBelow, someBelow, countBelow}
 use Rattle.answer.proofs.Tests.{both, and-true, and-false, and-after, or-true, or-false}
 
 module _ (p : ℕ → Bool) where
+  pub every-next : (n : ℕ) → everyBelow (n + 1) p ≡ everyBelow n p && p n
+  every-next n = rw add-one refl
+
   pub every-more : (n : ℕ) → everyBelow n p ≡ true → p n ≡ true → everyBelow (n + 1) p ≡ true
-  every-more n e h = rw add-one (ap (λ b. b && p n) e ∙ h)
+  every-more n e h = every-next n ∙ ap (λ b. b && p n) e ∙ h
 
   pub every-true : (n : ℕ) → ((j : ℕ) → j < n → p j ≡ true) → everyBelow n p ≡ true
   every-true zero h = refl

@@ -1,13 +1,13 @@
 -- In an accepted table, the nodes under a node are its children, those whose parent it is, each with the nodes under it.
 -- Assumes nothing.
-use mathlib.Core.Path.{_≡_, refl, sym, ap, _∙_}
+use mathlib.Core.Path.{_≡_, refl, sym, ap, subst, _∙_}
 use mathlib.Core.Bool.{Bool, true, false, cond}
 use mathlib.Core.Logic.{⊎-elim}
 use mathlib.Core.List.{List, [], _∷_}
 use Prim.Native.Nat.{ℕ, zero, suc, _+_, _-_, _≤_, _<_}
 use native.Mathlib.Nat.{eq-or-lt-of-le}
 use native.Mathlib.Omega.{arith}
-use borrow.Author.Tests.{eq-eqb, ne-eqb, eqb-true}
+use borrow.Author.Tests.{eq-eqb, ne-eqb, eqb-true, eqb-false}
 use lib.Dec.{eqb}
 use Rattle.answer.proofs.Tests.{lt-or-ge}
 use Rattle.table.specs.Layout.{span, count}
@@ -65,6 +65,24 @@ module _ (t : List ℕ) (i : ℕ) where
       by true e rest = rw (more j n true e) (h j (omega arith) (omega arith) (eqb-true (parent t j) i e), rest)
       by false e rest = rw (more j n false e) rest
 
+  -- and the other way round
+  of-each : (P : ℕ → Type 0) (n j : ℕ) → EachOf P (childrenFrom t i j n) → (k : ℕ) → j ≤ k → k < j + n → parent t k ≡ i → P k
+  of-each P zero j e k a b h = absurd (omega arith)
+  of-each P (suc n) j e k a b h = by (eqb (parent t j) i) refl (λ rest l. of-each P n (j + 1) rest k l (omega arith) h)
+    where
+      by : (b : Bool) → eqb (parent t j) i ≡ b → (EachOf P (childrenFrom t i (j + 1) n) → j + 1 ≤ k → P k) → P k
+      by true q later =
+          let both : P j × EachOf P (childrenFrom t i (j + 1) n) = rw (more j n true q) at e in
+          ⊎-elim (λ (z : j ≡ k). subst P z (both .0)) (λ (z : j < k). later (both .1) (omega arith)) (eq-or-lt-of-le a)
+      by false q later =
+          ⊎-elim
+          (λ (z : j ≡ k). absurd (eqb-false (parent t j) i q (ap (parent t) z ∙ h)))
+          (λ (z : j < k). later (rw (more j n false q) at e) (omega arith))
+          (eq-or-lt-of-le a)
+
+  pub each-child : (P : ℕ → Type 0) → EachOf P (childrenOf t i) → (j : ℕ) → 0 < j → j < count t → parent t j ≡ i → P j
+  each-child P e j a b h = of-each P (count t - 1) 1 e j a (omega arith) h
+
 module _ (t : List ℕ) (w : WellFormed t) (i : ℕ) (l : i < count t) where
   -- Node i reaches over node j, and no node between them does: it is j's parent.
   is-child : (j : ℕ) → i < j → j < endOf t i → ((k : ℕ) → i < k → k < j → endOf t k ≤ j) → parent t j ≡ i
@@ -85,6 +103,9 @@ module _ (t : List ℕ) (w : WellFormed t) (i : ℕ) (l : i < count t) where
   -- the first child, if there is one, stands after node i
   pub row-first : OnRow t i (i + 1)
   row-first = record { after = omega arith; within = omega (arith, w .spans i l); between = λ k a b. absurd (omega arith) }
+
+  pub first-child : i + 1 < endOf t i → parent t (i + 1) ≡ i
+  first-child h = is-child (i + 1) (omega arith) h (row-first .between)
 
   pub children-first : childrenOf t i ≡ rowFrom t i (i + 1)
   children-first =

@@ -9,7 +9,7 @@ use lib.Dec.{lit<}
 use Rattle.answer.specs.Answers.{refused, counted}
 use Rattle.answer.specs.Refusals.{Refusal, row, upward, None, First}
 use Rattle.answer.specs.declared.Answer.{Answer}
-use Rattle.answer.proofs.Settling.{all-join, all-parts, all-upward, upward-all, first-in, first-after, settled-first, settled-after, Numbered, number-none, number-first}
+use Rattle.answer.proofs.Settling.{all-join, all-parts, all-upward, upward-all, first-in, first-after, settled-first, settled-none, settled-after, Numbered, number-none, number-first}
 use Rattle.table.specs.Layout.{count}
 use Rattle.table.specs.Reading.{tableRefusals, reading, Accepted}
 use Rattle.table.proofs.Accepting.{read-refused}
@@ -49,6 +49,9 @@ module _ (t : List ℕ) where
     pub no-rule-in-only-one : ruleInOnlyOne t i ≡ false
     no-rule-in-only-one = upward-all (λ r. r .when ≡ false) (atNode 15 (ruleInOnlyOne t)) (count t) 0 (profile-parts s .1) i (omega arith) (omega arith) .0
 
+  pub no-rule-as-root : Standard t → ruleAsRoot t ≡ false
+  no-rule-as-root s = profile-parts s .2 .0
+
   -- a table that is refused without the profile is so by it
   pub standard-refused : (a : Answer) → a ≡ reading t → (a .number ≡ 0 → ⊥) → a ≡ readingStandard t
   standard-refused a e h =
@@ -67,6 +70,10 @@ module _ (t : List ℕ) where
       (all-upward (λ r. 0 < r .number) (atNode 14 (mixedGroup t)) (count t) 0 (λ i a b. (lit< tt, tt)))
       (all-upward (λ r. 0 < r .number) (atNode 15 (ruleInOnlyOne t)) (count t) 0 (λ i a b. (lit< tt, tt))))
       (lit< tt, tt)
+
+  -- the count, where it refuses nothing
+  pub standard-counted : Standard t → counted (count t) ≡ readingStandard t
+  standard-counted s = sym (settled-none refused (counted (count t)) (standardRefusals t) s)
 
   -- what the profile answers of an accepted table tells
   module _ (c : Accepted t) (a : Answer) (e : a ≡ profiled t) where

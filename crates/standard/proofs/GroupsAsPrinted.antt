@@ -2,15 +2,15 @@
 -- policy-combining one, for any test of which nodes apply that is closed.
 -- Assumes nothing.
 use mathlib.Core.Path.{_≡_, refl, sym, ap, _∙_}
-use mathlib.Core.Bool.{Bool, true, false, not, cond, _&&_, true≢false}
+use mathlib.Core.Bool.{Bool, true, false, not, cond, true≢false}
 use mathlib.Core.Logic.{⊎-elim}
-use mathlib.Core.List.{List, [], _∷_, map}
+use mathlib.Core.List.{List, [], map}
 use mathlib.Core.Option.{some}
 use Prim.Native.Nat.{ℕ, _≤_, _<_}
 use native.Mathlib.Omega.{arith}
 use borrow.Author.Tests.{le-leb, leb-true, eq-eqb, not-false}
 use lib.Dec.{eqb}
-use Rattle.answer.proofs.Tests.{lt-or-ge, neither}
+use Rattle.answer.proofs.Tests.{lt-or-ge}
 use Rattle.combining.specs.Kinds.{onlyOneApplicableKind, permitRuleKind}
 use Rattle.combining.specs.Ways.{notApplicable, permit, deny, indeterminate, any, way}
 use Rattle.combining.proofs.Fold.{way-none}
@@ -21,14 +21,14 @@ use Rattle.table.proofs.AcceptedIsWellFormed.{well-formed}
 use Rattle.ruling.specs.Forest.{under, childrenOf}
 use Rattle.ruling.specs.Closed.{Closed}
 use Rattle.ruling.specs.Meaning.{gives, children, decision}
-use Rattle.ruling.proofs.ChildrenByParents.{EachOf, children-each}
+use Rattle.ruling.proofs.ChildrenByParents.{children-each}
 use Rattle.ruling.proofs.DecisionByChildren.{decision-by-children}
 use Rattle.ruling.proofs.Decisions.{gives-not, gives-rule, gives-group, ruled-not}
 use Rattle.standard.specs.Profile.{holdsRule, holdsGroup, Standard}
 use Rattle.standard.specs.AppendixC.{ruleCombining, policyCombining}
 use Rattle.standard.specs.AsPrinted.{asRule, asPolicy, rulesOf, policiesOf}
 use Rattle.standard.proofs.Accepting.{standard-accepted, not-mixed, no-rule-in-only-one}
-use Rattle.standard.proofs.Pass.{no-child, mixed-by, in-only-one-by}
+use Rattle.standard.proofs.Pass.{each-fails, no-child, mixed-by, in-only-one-by}
 use Rattle.standard.proofs.WaysAsPrinted.{asChildren, Told, policies, each-then, rules, absent-all}
 
 module _ (a : ℕ → Bool) (t : List ℕ) where
@@ -68,11 +68,6 @@ module _ (a : ℕ → Bool) (t : List ℕ) where
           ap (λ js. policyCombining (kind t i) (map (asPolicy a t) js)) e ∙ policies a t [] (kind t i) g ∙ none,
           λ h. ap (λ js. ruleCombining (kind t i) (map (asRule a t) js)) e ∙ rules a t [] tt (kind t i) g h ∙ ap some none,
         )
-
--- numbers at which a test fails at each, where it fails at all
-each-fails : (p : ℕ → Bool) (js : List ℕ) → any p js ≡ false → EachOf (λ j. p j ≡ false) js
-each-fails p [] e = tt
-each-fails p (j ∷ js) e = let h = neither (p j) (any p js) e in (h .0, each-fails p js (h .1))
 
 module _ (t : List ℕ) (s : Standard t) (a : ℕ → Bool) (closed : Closed t a) (i : ℕ) (l : i < count t) where
   accepted : Accepted t

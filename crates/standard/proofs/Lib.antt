@@ -2,6 +2,7 @@
 pub mod Accepting
 pub mod Rows
 pub mod Pass
+pub mod ConformingIsStandard
 pub mod WaysAsPrinted
 pub mod GroupsAsPrinted
 pub mod EqualAnswers

@@ -1,9 +1,9 @@
 -- The pass over the nodes, from the last to the first, that finds 14, 15 and 16: with one node more, and what it answers.
 -- Assumes nothing.
 use mathlib.Core.Path.{_≡_, refl, sym, ap, ap₂, subst, _∙_}
-use mathlib.Core.Bool.{Bool, true, false, not, cond, _&&_}
+use mathlib.Core.Bool.{Bool, true, false, not, cond, _&&_, _||_}
 use mathlib.Core.Logic.{inl, inr, ⊎-elim}
-use mathlib.Core.List.{List, [], _++_}
+use mathlib.Core.List.{List, [], _∷_, _++_}
 use Prim.Native.Nat.{ℕ, _+_, _≤_, _<_}
 use native.Mathlib.Nat.{eq-or-lt-of-le}
 use native.Mathlib.Omega.{arith}
@@ -14,19 +14,29 @@ use lib.Seq.{getD-set-same}
 use Rattle.answer.specs.Answers.{refused, counted, zeros}
 use Rattle.answer.specs.Refusals.{row, upward, None, First, here}
 use Rattle.answer.proofs.Settling.{all-join, all-upward, first-in, first-after, first-upward, settled-first, settled-none}
-use Rattle.answer.proofs.Tests.{and-false}
+use Rattle.answer.proofs.Tests.{neither, and-false}
 use Rattle.combining.specs.Kinds.{onlyOneApplicableKind}
 use Rattle.combining.specs.Ways.{any}
-use Rattle.table.specs.Layout.{count, kind, span}
+use Rattle.table.specs.Layout.{count, kind}
 use Rattle.table.specs.Tree.{isRule, endOf}
 use Rattle.table.specs.WellFormed.{WellFormed}
 use Rattle.ruling.specs.Forest.{childrenOf}
-use Rattle.ruling.proofs.ChildrenByParents.{row-first, children-first, children-end}
+use Rattle.ruling.proofs.ChildrenByParents.{EachOf, row-first, children-first, children-end}
 use Rattle.standard.specs.Profile.{atNode, holdsRule, holdsGroup, mixedGroup, ruleInOnlyOne, ruleAsRoot, profileRefusals, profiled}
 use Rattle.standard.specs.Pass.{tally, Tallied, Lowest, FoundFrom}
 use Rattle.standard.specs.declared.profile.Found.{Found}
 use Rattle.standard.proofs.Accepting.{mixed, inOnlyOne, root}
 use Rattle.standard.proofs.Rows.{holds-by-rows, tallied-with}
+
+-- a test passes at no number of a list exactly where it fails at each
+
+pub each-fails : (p : ℕ → Bool) (js : List ℕ) → any p js ≡ false → EachOf (λ j. p j ≡ false) js
+each-fails p [] e = tt
+each-fails p (j ∷ js) e = let h = neither (p j) (any p js) e in (h .0, each-fails p js (h .1))
+
+pub none-passes : (p : ℕ → Bool) (js : List ℕ) → EachOf (λ j. p j ≡ false) js → any p js ≡ false
+none-passes p [] h = refl
+none-passes p (j ∷ js) h = ap₂ (λ x y. x || y) (h .0) (none-passes p js (h .1))
 
 -- node j is a group of the kind only one applicable
 abbrev pub onlyOne : List ℕ → ℕ → Bool

@@ -1,17 +1,17 @@
-// What the profile asks of an accepted table, in one pass over its nodes, from the last to the first: refusals 14, 15 and 16.
+// Which of refusals 14, 15 and 16 an accepted table gets, and where: one pass over its nodes, from the last to the first.
 use answer::Answer;
 use combining::Kind;
 use table::layout::NODES;
 use table::layout::count_at;
 use table::layout::kind_at;
 use table::layout::span_at;
+use table::reading::rule_at;
 ghost use mathlib.Core.Path.{_≡_};
 ghost use mathlib.Core.Bool.{not, cond, _&&_};
 ghost use Prim.Native.Nat.{_+_, _<_};
 ghost use lib.Dec.{eqb};
 ghost use lib.ListN.{set};
-ghost use Rattle.table.specs.Layout.{count, NodeHeld};
-ghost use Rattle.table.specs.Tree.{isRule};
+ghost use Rattle.table.specs.Layout.{count};
 ghost use Rattle.table.specs.WellFormed.{WellFormed};
 ghost use Rattle.standard.specs.Profile.{profiled};
 ghost use Rattle.standard.specs.Pass.{FoundFrom};
@@ -24,18 +24,6 @@ pub(crate) struct Found {
     pub groups: u8,
     pub mixed: usize,
     pub in_only_one: usize,
-}
-
-// Whether node i is a rule.
-fn rule_at(table: &[u8], i: usize) -> bool
-    requires { ⌜ NodeHeld (now table) i ⌝ }
-    ensures { λ r. ⌜ r ≡ isRule (now (table .entry)) i ⌝ }
-{
-    let kind = kind_at(table, i);
-    match kind {
-        Kind::FIRST_APPLICABLE..=Kind::DENY_OVERRIDES => false,
-        _ => true,
-    }
 }
 
 // Node i where it is at fault, else the lowest that is after it.

@@ -5,7 +5,8 @@ use answer::JointRequest;
 use answer::clear;
 use ruling::for_subjects;
 use ruling::rule_accepted;
-use table::read;
+use table::layout::count_at;
+use table::reading::read_conformance;
 ghost use mathlib.Core.Path.{_≡_};
 ghost use lib.ListN.{length};
 ghost use Rattle.standard.specs.Profile.{readingStandard};
@@ -15,11 +16,14 @@ ghost use Rattle.standard.specs.RulingStandard.{rulingStandard, ruledLis
 pub fn read_standard(table: &[u8]) -> Answer
     ensures { λ r. ⌜ r ≡ readingStandard (now (table .entry)) ⌝ }
 {
-    let reading = read(table);
-    if reading.number != 0 {
-        return reading;
+    let found = read_conformance(table);
+    if found.number != 0 {
+        Answer::refused(found.number, found.place)
+    } else if found.conforms {
+        Answer::counted(count_at(table))
+    } else {
+        read_profile(table)
     }
-    read_profile(table)
 }
 
 // Rules by the profile on a request of several subjects together: the decision, how many subjects they are, and in the list the cards of
@@ -29,13 +33,12 @@ pub fn rule_standard(table: &[u8], request: JointRequest, cards: &mut [u16]) -> 
     ensures { λ _. ⌜ now (cards .exit) ≡ ruledListStandard (now (table .entry)) (request .subjects) (request .others) (length (now (cards .entry))) ⌝ }
 {
     clear(cards);
-    let reading = read(table);
-    if reading.number != 0 {
-        return reading;
+    let found = read_conformance(table);
+    if found.number != 0 {
+        return Answer::refused(found.number, found.place);
     }
-    let profile = read_profile(table);
-    if profile.number != 0 {
-        return profile;
+    if !found.conforms {
+        return read_profile(table);
     }
     let others = request.others;
     let answer = rule_accepted(table, request.subjects, &others, cards);

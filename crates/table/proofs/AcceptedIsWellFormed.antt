@@ -4,7 +4,7 @@ use mathlib.Core.Path.{_≡_, refl, ap}
 use mathlib.Core.Logic.{⊎-elim}
 use mathlib.Core.List.{List}
 use Prim.Native.Nat.{ℕ, zero, suc, _≤_, _<_}
-use native.Mathlib.Nat.{eq-or-lt-of-le, eq-zero-or-pos}
+use native.Mathlib.Nat.{eq-or-lt-of-le}
 use native.Mathlib.Omega.{arith}
 use Rattle.table.specs.Layout.{span, count}
 use Rattle.table.specs.Tree.{endOf, parent}
@@ -12,21 +12,11 @@ use Rattle.table.specs.Reading.{Accepted}
 use Rattle.table.specs.WellFormed.{WellFormed}
 use Rattle.table.proofs.Tree.{parent-below, parent-reaches}
 use Rattle.table.proofs.Header.{headed}
-use Rattle.table.proofs.Good.{Good, good}
+use Rattle.table.proofs.Good.{Good, good, ends-inside}
 use Rattle.table.proofs.Accepting.{accepted-header, accepted-node}
 
 module _ (t : List ℕ) where
   module _ (all : (i : ℕ) → i < count t → Good t i) where
-    inside-by : (m i : ℕ) → i < m → i < count t → endOf t i ≤ count t
-    inside-by zero i l h = absurd (omega arith)
-    inside-by (suc m) i l h =
-        ⊎-elim
-        (λ (z : i ≡ 0). omega (arith, all i h .root z))
-        (λ (z : 0 < i).
-        let p = parent-below t i z in
-        omega (arith, all i h .inside z, inside-by m (parent t i) (omega arith) (omega arith)))
-        (eq-zero-or-pos i)
-
     -- a node's span lies in every span that it starts in: in its parent's, and the parent's in those
     nested-by : (m i j : ℕ) → j < m → j < count t → i < j → j < endOf t i → endOf t j ≤ endOf t i
     nested-by zero i j l h a b = absurd (omega arith)
@@ -43,7 +33,7 @@ module _ (t : List ℕ) where
   well-formed c =
       let h = headed t (accepted-header t c) in
       let g : (i : ℕ) → i < count t → Good t i = λ i l. good t i (accepted-node t c i l) in
-      let inside : (i : ℕ) → i < count t → endOf t i ≤ count t = λ i l. inside-by g (suc i) i (omega arith) l in
+      let inside : (i : ℕ) → i < count t → endOf t i ≤ count t = ends-inside t (count t) g in
       record {
         records = h .records;
         some = h .some;

@@ -1,16 +1,18 @@
 -- Refusals 1 to 8 in their order, by the header and by each node; what an accepted table passes; what a reading tells a caller.
 -- Assumes nothing.
-use mathlib.Core.Path.{_≡_, refl, ap, _∙_, sym}
-use mathlib.Core.Bool.{false}
+use mathlib.Core.Path.{_≡_, refl, ap, ap₂, _∙_, sym}
+use mathlib.Core.Bool.{Bool, false, _&&_}
 use mathlib.Core.List.{List, _++_}
 use Prim.Native.Nat.{ℕ, _<_}
 use native.Mathlib.Omega.{arith}
-use lib.Dec.{lit<}
+use borrow.Author.Tests.{eq-eqb}
+use lib.Dec.{lit<, eqb}
 use Rattle.answer.specs.Answers.{refused, counted}
 use Rattle.answer.specs.Refusals.{Refusal, upward, firstNumber, All, None, First}
 use Rattle.answer.specs.declared.Answer.{Answer}
 use Rattle.answer.proofs.Settling.{all-join, all-parts, all-upward, upward-all, all-first, first-in, first-after, first-upward, settled-first, settled-none, Numbered, number-none, number-first}
 use Rattle.table.specs.Layout.{count}
+use Rattle.table.specs.Conformance.{conforms}
 use Rattle.table.specs.Reading.{headerRefusals, nodeRefusals, tableRefusals, reading, Accepted}
 
 module _ (t : List ℕ) where
@@ -89,3 +91,16 @@ module _ (t : List ℕ) where
 
     pub read-refused : (a .number ≡ 0 → ⊥) → (r : Refusal) × (First (tableRefusals t) r × (a ≡ refused (r .number) (r .place)))
     read-refused h = number-first refused (λ x. x .number) (λ number place. refl) (counted (count t)) refl (tableRefusals t) a e h
+
+  -- what a caller of `read_conformance` learns
+  module _ (number place : ℕ) (en : number ≡ reading t .number) (ep : place ≡ reading t .place) where
+    pub found-accepted : number ≡ 0 → Accepted t
+    found-accepted z = read-accepted (reading t) refl (sym en ∙ z)
+
+    pub found-refused : (number ≡ 0 → ⊥) → refused number place ≡ reading t
+    found-refused h =
+        let r = read-refused (reading t) refl (λ z. h (en ∙ z)) in
+        ap₂ refused en ep ∙ ap (λ a. refused (a .number) (a .place)) (r .1 .1) ∙ sym (r .1 .1)
+
+    pub found-conforms : {s : Bool} → s ≡ (eqb number 0 && conforms t) → number ≡ 0 → s ≡ conforms t
+    found-conforms e z = e ∙ ap (λ b. b && conforms t) (eq-eqb number 0 z)

@@ -1,6 +1,6 @@
 -- Reading in one pass: the ends of the open nodes, one for each level, give each node's parent by climbing from the node before it.
 -- Assumes nothing.
-use mathlib.Core.Path.{_≡_, refl, sym, ap, _∙_}
+use mathlib.Core.Path.{_≡_, sym, ap, _∙_}
 use mathlib.Core.Bool.{cond}
 use mathlib.Core.Logic.{⊎-elim}
 use mathlib.Core.List.{List}
@@ -13,7 +13,7 @@ use Rattle.answer.proofs.Tests.{lt-or-ge}
 use Rattle.table.specs.Layout.{span}
 use Rattle.table.specs.Tree.{endOf, latest, parent, level, Above, itself}
 use Rattle.table.specs.Open.{deepest}
-use Rattle.table.proofs.Tree.{latest-here, latest-next, latest-climb, parent-below, level-root, level-child, above-parent, above-earlier}
+use Rattle.table.proofs.Tree.{latest-here, latest-next, latest-climb, parent-below, level-root, level-child, above-trans, above-parent, above-earlier}
 
 module _ (ends : List ℕ) (i : ℕ) where
   pub deepest-here : (d : ℕ) → 0 < d → i < getD ends d 0 → deepest ends i d ≡ d
@@ -26,19 +26,23 @@ module _ (ends : List ℕ) (i : ℕ) where
       let z : d ≡ suc d - 1 = omega arith in
       ap (λ b. cond b (suc d) (deepest ends i d)) (le-ltb i (getD ends (suc d) 0) h) ∙ ap (deepest ends i) z
 
--- The ends hold, at its level, the end of node p and of each node above it.
-pub record Open (t : List ℕ) (ends : List ℕ) (p : ℕ) : Type 0 where
-  pub held : (a : ℕ) → Above t p a → getD ends (level t a) 0 ≡ endOf t a
+-- The list holds, at its level, what f gives of node q and of each node above it.
+pub record Open {A : Type 0} (t : List ℕ) (f : ℕ → A) (none : A) (xs : List A) (q : ℕ) : Type 0 where
+  pub held : (a : ℕ) → Above t q a → getD xs (level t a) none ≡ f a
+
+-- it then does so of each node above q
+pub open-above : {A : Type 0} (t : List ℕ) (f : ℕ → A) (none : A) (xs : List A) {q a : ℕ} → Open t f none xs q → Above t q a → Open t f none xs a
+open-above t f none xs o u = record { held = λ b v. o .held b (above-trans t u v) }
 
 -- a node's level is at least 1
 level-positive : (t : List ℕ) (i : ℕ) → 0 < level t i
 level-positive t i =
     ⊎-elim (λ (z : i ≡ 0). omega (arith, ap (level t) z, level-root t)) (λ (l : 0 < i). omega (arith, level-child t i l)) (eq-zero-or-pos i)
 
-module _ (t ends : List ℕ) (p : ℕ) (o : Open t ends p) (reach : suc p < endOf t 0) where
-  -- Climbing from node j, which is p or above it, finds the parent of the node after p.
-  climb-by : (m j : ℕ) → j < m → Above t p j → latest t (suc p) (suc p) ≡ latest t (suc p) (suc j) →
-      (deepest ends (suc p) (level t j) ≡ level t (parent t (suc p))) × Above t p (parent t (suc p))
+module _ (t ends : List ℕ) (p q : ℕ) (o : Open t (endOf t) 0 ends q) (earlier : q ≤ p) (reach : suc p < endOf t 0) where
+  -- Climbing from node j, which is q or above it, finds the parent of the node after p.
+  climb-by : (m j : ℕ) → j < m → Above t q j → latest t (suc p) (suc p) ≡ latest t (suc p) (suc j) →
+      (deepest ends (suc p) (level t j) ≡ level t (parent t (suc p))) × Above t q (parent t (suc p))
   unfolding parent
   climb-by zero j l u e = absurd (omega arith)
   climb-by (suc m) j l u e =
@@ -60,5 +64,7 @@ module _ (t ends : List ℕ) (p : ℕ) (o : Open t ends p) (reach : suc p < endO
       (eq-zero-or-pos j))
       (lt-or-ge (suc p) (endOf t j))
 
-  pub climb : (deepest ends (suc p) (level t p) ≡ level t (parent t (suc p))) × Above t p (parent t (suc p))
-  climb = climb-by (suc p) p (omega arith) itself refl
+  -- no node after q reaches over the one after p
+  pub climb : latest t (suc p) (suc p) ≡ latest t (suc p) (suc q) →
+      (deepest ends (suc p) (level t q) ≡ level t (parent t (suc p))) × Above t q (parent t (suc p))
+  climb = climb-by (suc q) q (omega arith) itself

@@ -3,8 +3,10 @@
 use mathlib.Core.Path.{_≡_, sym, ap, _∙_}
 use mathlib.Core.Bool.{false, not, cond, _&&_}
 use mathlib.Core.List.{List}
-use Prim.Native.Nat.{ℕ, _≤_, _<_}
-use native.Mathlib.Nat.{pos-of-ne-zero}
+use mathlib.Core.Logic.{⊎-elim}
+use Prim.Native.Nat.{ℕ, zero, suc, _≤_, _<_}
+use native.Mathlib.Nat.{pos-of-ne-zero, eq-zero-or-pos}
+use native.Mathlib.Omega.{arith}
 use borrow.Author.Tests.{ltb-false, eqb-true, eqb-false, not-false, le-leb, lt-leb}
 use lib.Dec.{ltb, eqb}
 use Rattle.answer.specs.Fields.{fields}
@@ -12,6 +14,7 @@ use Rattle.answer.specs.Refusals.{None}
 use Rattle.table.specs.Layout.{maximum, count, kind, span, card, low, high}
 use Rattle.table.specs.Tree.{isRule, endOf, parent, level}
 use Rattle.table.specs.Reading.{kindFault, oddSpan, wrongEnd, spanFault, levelFault, rangeFault, rangesFault, cardFault, nodeRefusals}
+use Rattle.table.proofs.Tree.{parent-below}
 use Rattle.table.proofs.Faults.{wrong-end-root, wrong-end-child}
 use Rattle.answer.proofs.Tests.{neither}
 use Rattle.answer.proofs.Below.{none-each}
@@ -85,3 +88,18 @@ module _ (t : List ℕ) (i : ℕ) where
         carded = card-rule cards;
         plain = card-group cards;
       }
+
+-- where all nodes below b are so, none of them ends past the last node
+module _ (t : List ℕ) (b : ℕ) (all : (i : ℕ) → i < b → Good t i) where
+  inside-by : (m i : ℕ) → i < m → i < b → endOf t i ≤ count t
+  inside-by zero i l h = absurd (omega arith)
+  inside-by (suc m) i l h =
+      ⊎-elim
+      (λ (z : i ≡ 0). omega (arith, all i h .root z))
+      (λ (z : 0 < i).
+      let p = parent-below t i z in
+      omega (arith, all i h .inside z, inside-by m (parent t i) (omega arith) (omega arith)))
+      (eq-zero-or-pos i)
+
+  pub ends-inside : (i : ℕ) → i < b → endOf t i ≤ count t
+  ends-inside i l = inside-by (suc i) i (omega arith) l

@@ -1,120 +1,211 @@
 -- The pass over the nodes: what it holds before each node, what that says of the node, and how it goes on.
 -- Assumes nothing.
-use mathlib.Core.Path.{_≡_, refl, sym, ap, _∙_}
+use mathlib.Core.Path.{_≡_, refl, sym, ap, ap₂, _∙_}
+use mathlib.Core.Bool.{Bool, true, false, Bool·beq, cond, _&&_}
 use mathlib.Core.Logic.{⊎-elim}
 use mathlib.Core.List.{List}
 use Prim.Native.Nat.{ℕ, zero, suc, _+_, _≤_, _<_}
 use native.Mathlib.Nat.{eq-zero-or-pos}
 use native.Mathlib.Omega.{arith}
 use borrow.Author.Count.{below-more}
+use borrow.Author.Tests.{ne-eqb}
 use lib.ListN.{length, getD, set, length-set}
 use lib.Seq.{getD-set-same, getD-set-other}
 use Rattle.answer.specs.Answers.{refused, counted}
+use Rattle.answer.specs.Below.{everyBelow}
 use Rattle.answer.specs.Refusals.{firstNumber, None}
+use Rattle.answer.proofs.Below.{every-next}
 use Rattle.table.specs.Layout.{count, span}
-use Rattle.table.specs.Tree.{endOf, parent, level, Above, itself, further}
+use Rattle.table.specs.Tree.{isRule, endOf, latest, parent, level, Above, itself, further}
 use Rattle.table.specs.Open.{deepest, EndAbove}
+use Rattle.table.specs.Conformance.{asksForRules, ruleAsked, nodeConforms, conforms}
 use Rattle.table.specs.Reading.{headerRefusals, nodeRefusals, reading}
-use Rattle.table.proofs.Tree.{level-root, level-child, above-trans, above-level}
-use Rattle.table.proofs.Climb.{Open, climb}
-use Rattle.table.proofs.Good.{good}
+use Rattle.table.proofs.Tree.{latest-next, latest-climb, parent-below, level-root, level-child, above-level}
+use Rattle.table.proofs.Climb.{Open, open-above, climb}
+use Rattle.table.proofs.Good.{good, ends-inside}
 use Rattle.table.proofs.Accepting.{passed-accepted, node-refused, accepted-reading}
 
+-- with what f gives of node i, on level r + 1, a list that holds what it gives of the nodes above holds it of node i too
+module _ {A : Type 0} (t : List ℕ) (f : ℕ → A) (none : A) (xs : List A) (i r : ℕ) (v : A) where
+  opened : length xs ≡ 9 → level t i ≡ r + 1 → r < 8 → v ≡ f i → (0 < i → Open t f none xs (parent t i)) → Open t f none (set xs (r + 1) v) i
+  opened s el lr e o = record { held = held }
+    where
+      held : (a : ℕ) → Above t i a → getD (set xs (r + 1) v) (level t a) none ≡ f a
+      held a itself = ap (λ k. getD (set xs (r + 1) v) k none) el ∙ getD-set-same xs (r + 1) v none (omega arith) ∙ e
+      held a (further h u) =
+          getD-set-other xs (r + 1) (level t a) v none (λ q. omega (arith, above-level t u, level-child t i h)) ∙ o h .held a u
+
 module _ (t : List ℕ) (n : ℕ) where
-  -- Before node i: all nodes before it pass, and where there are some, the ends are those of the last of them and of the nodes above it.
-  pub record Passed (ends : List ℕ) (depth i : ℕ) : Type 0 where
+  -- After node p: node q, on level depth, is the deepest that was opened and may reach further, and the lists are of it and of those above it.
+  pub record After (ends : List ℕ) (rules : List Bool) (depth p : ℕ) : Type 0 where
+    pub q : ℕ
+    pub earlier : q ≤ p
+    pub over : latest t (suc p) (suc p) ≡ latest t (suc p) (suc q)
+    pub on : depth ≡ level t q
+    pub ends-open : Open t (endOf t) 0 ends q
+    pub rules-open : Open t (asksForRules t) false rules q
+
+  -- Before node i: all nodes before it pass, and the lists are of the nodes that are open.
+  pub record Passed (ends : List ℕ) (rules : List Bool) (conforming : Bool) (depth i : ℕ) : Type 0 where
     pub whole : n ≡ count t
     pub inside : i ≤ n
     pub few : depth ≤ 8
     pub size : length ends ≡ 9
+    pub rules-size : length rules ≡ 9
     pub table : getD ends 0 0 ≡ count t
+    pub group : getD rules 0 false ≡ false
     pub first : i ≡ 0 → depth ≡ 0
     pub root : 0 < i → span t 0 ≡ count t
-    pub last : (p : ℕ) → i ≡ suc p → (depth ≡ level t p) × Open t ends p
+    pub last : (p : ℕ) → i ≡ suc p → i < n → After ends rules depth p
     pub before : (j : ℕ) → j < i → None (nodeRefusals t j)
+    pub seen : conforming ≡ everyBelow i (nodeConforms t)
 
-  pub start : (ends : List ℕ) → n ≡ count t → length ends ≡ 9 → getD ends 0 0 ≡ n → Passed ends 0 0
-  start ends w s e = record {
+  pub start : (ends : List ℕ) (rules : List Bool) → n ≡ count t → length ends ≡ 9 → length rules ≡ 9 → getD ends 0 0 ≡ n → getD rules 0 false ≡ false →
+      Passed ends rules true 0 0
+  start ends rules w s z e g = record {
     whole = w;
     inside = omega arith;
     few = omega arith;
     size = s;
+    rules-size = z;
     table = e ∙ w;
+    group = g;
     first = λ _. refl;
     root = λ l. absurd (omega arith);
     last = λ p z. absurd (omega arith);
     before = λ j l. absurd (omega arith);
+    seen = refl;
   }
 
-  module _ (ends : List ℕ) (depth r : ℕ) where
-    -- the open nodes tell where the nodes that node i stands among end, and its level
-    pub found : (i : ℕ) → Passed ends depth i → i < n → r ≡ deepest ends i depth →
-        EndAbove t i (getD ends r 0) × (level t i ≡ r + 1)
+  module _ (ends : List ℕ) (rules : List Bool) (conforming : Bool) (depth r : ℕ) where
+    -- the parent of node i is open, on the level that the climb finds
+    up : (i : ℕ) → Passed ends rules conforming depth i → i < n → r ≡ deepest ends i depth → 0 < i →
+        (r ≡ level t (parent t i)) × (Open t (endOf t) 0 ends (parent t i) × Open t (asksForRules t) false rules (parent t i))
+    up zero s l e h = absurd (omega arith)
+    up (suc p) s l e h =
+        let a = s .last p refl l in
+        let c = climb t ends p (a .q) (a .ends-open) (a .earlier) (omega (arith, s .whole, s .root (omega arith))) (a .over) in (
+          e ∙ ap (deepest ends (suc p)) (a .on) ∙ c .0,
+          (open-above t (endOf t) 0 ends (a .ends-open) (c .1), open-above t (asksForRules t) false rules (a .rules-open) (c .1)),
+        )
+
+    -- the open nodes tell where the nodes that node i stands among end, its level, and what is asked of it
+    pub found : (i : ℕ) → Passed ends rules conforming depth i → i < n → r ≡ deepest ends i depth →
+        EndAbove t i (getD ends r 0) × (level t i ≡ r + 1) × (getD rules r false ≡ ruleAsked t i)
+    unfolding ruleAsked
     found zero s l e =
         let z : r ≡ 0 = e ∙ ap (deepest ends 0) (s .first refl) in (
           record { root = λ _. ap (λ k. getD ends k 0) z ∙ s .table; child = λ h. absurd (omega arith) },
           omega (arith, level-root t),
+          ap (λ k. getD rules k false) z ∙ s .group,
         )
     found (suc p) s l e =
-        let o = s .last p refl in
-        let c = climb t ends p (o .1) (omega (arith, s .whole, s .root (omega arith))) in
-        let z : r ≡ level t (parent t (suc p)) = e ∙ ap (deepest ends (suc p)) (o .0) ∙ c .0 in (
+        let h : 0 < suc p = omega arith in
+        let u = up (suc p) s l e h in (
           record {
             root = λ h. absurd (omega arith);
-            child = λ _. ap (λ k. getD ends k 0) z ∙ o .1 .held (parent t (suc p)) (c .1);
+            child = λ _. ap (λ k. getD ends k 0) (u .0) ∙ u .1 .0 .held (parent t (suc p)) itself;
           },
-          omega (arith, level-child t (suc p) (omega arith)),
+          omega (arith, u .0, level-child t (suc p) h),
+          ap (λ k. getD rules k false) (u .0)
+              ∙ u .1 .1 .held (parent t (suc p)) itself
+              ∙ sym (ap (λ b. cond b false (asksForRules t (parent t (suc p)))) (ne-eqb (suc p) 0 (λ q. omega arith))),
         )
 
-    -- node i's own end, stored at its level
-    own : (i e : ℕ) → length ends ≡ 9 → level t i ≡ r + 1 → r < 8 → e ≡ endOf t i → getD (set ends (r + 1) e) (level t i) 0 ≡ endOf t i
-    own i e s el lr ee = ap (λ k. getD (set ends (r + 1) e) k 0) el ∙ getD-set-same ends (r + 1) e 0 (omega arith) ∙ ee
+    module _ (i : ℕ) (s : Passed ends rules conforming depth i) (l : i < n) (er : r ≡ deepest ends i depth) (ef : None (nodeRefusals t i)) where
+      shallow : r + 1 ≤ 8
+      shallow = omega (arith, found i s l er .1, good t i ef .levels)
 
-    -- the ends with it are those of node i and of the nodes above it
-    opened : (i e : ℕ) → Passed ends depth i → i < n → level t i ≡ r + 1 → r < 8 → e ≡ endOf t i → Open t (set ends (r + 1) e) i
-    opened zero e s l el lr ee = record { held = held }
-      where
-        held : (a : ℕ) → Above t 0 a → getD (set ends (r + 1) e) (level t a) 0 ≡ endOf t a
-        held a itself = own 0 e (s .size) el lr ee
-        held a (further h u) = absurd (omega arith)
-    opened (suc p) e s l el lr ee = record { held = held }
-      where
-        o : Open t ends p
-        o = s .last p refl .1
+      root-whole : span t 0 ≡ count t
+      root-whole = ⊎-elim (λ (z : i ≡ 0). ap (span t) (sym z) ∙ good t i ef .root z) (λ (z : 0 < i). s .root z) (eq-zero-or-pos i)
 
-        held : (a : ℕ) → Above t (suc p) a → getD (set ends (r + 1) e) (level t a) 0 ≡ endOf t a
-        held a itself = own (suc p) e (s .size) el lr ee
-        held a (further h u) =
-            getD-set-other ends (r + 1) (level t a) e 0 (λ q. omega (arith, above-level t u, level-child t (suc p) h))
-            ∙ o .held a (above-trans t (climb t ends p o (omega (arith, s .whole, s .root (omega arith))) .1) u)
+      -- the lists say what is asked of it
+      with-node : {rule : Bool} → rule ≡ isRule t i → conforming && Bool·beq rule (getD rules r false) ≡ everyBelow (i + 1) (nodeConforms t)
+      unfolding nodeConforms
+      with-node e = ap₂ (λ b c. b && c) (s .seen) (ap₂ Bool·beq e (found i s l er .2)) ∙ sym (every-next (nodeConforms t) i)
 
-    pub next : (i e : ℕ) → Passed ends depth i → i < n → r ≡ deepest ends i depth → None (nodeRefusals t i) → e ≡ endOf t i →
-        Passed (set ends (r + 1) e) (r + 1) (i + 1)
-    next i e s l er ef ee =
-        let f = found i s l er in
-        let g = good t i ef in
-        let lr : r + 1 ≤ 8 = omega (arith, f .1, g .levels) in
-        record {
+      -- where it holds something, the next node is one of the table
+      pub next-held : 1 < span t i → i + 1 < count t
+      next-held h = omega (arith, ends-inside t (i + 1) (λ j m. good t j (below-more (λ j. None (nodeRefusals t j)) i (s .before) ef j m)) i (omega arith))
+
+      module _ {rule : Bool} (rule-here : rule ≡ isRule t i) where
+        -- node i holds something, and is opened
+        pub next-opened : (e : ℕ) → e ≡ endOf t i → (asks : Bool) → asks ≡ asksForRules t i →
+            Passed (set ends (r + 1) e) (set rules (r + 1) asks) (conforming && Bool·beq rule (getD rules r false)) (r + 1) (i + 1)
+        next-opened e ee asks ea =
+            let f = found i s l er in
+            record {
+              whole = s .whole;
+              inside = omega arith;
+              few = shallow;
+              size = length-set ends (r + 1) e ∙ s .size;
+              rules-size = length-set rules (r + 1) asks ∙ s .rules-size;
+              table = getD-set-other ends (r + 1) 0 e 0 (λ q. omega arith) ∙ s .table;
+              group = getD-set-other rules (r + 1) 0 asks false (λ q. omega arith) ∙ s .group;
+              first = λ q. absurd (omega arith);
+              root = λ _. root-whole;
+              last = λ p q m.
+                  let z : i ≡ p = omega arith in
+                  let a : After (set ends (r + 1) e) (set rules (r + 1) asks) (r + 1) i =
+                  record {
+                    q = i;
+                    earlier = omega arith;
+                    over = refl;
+                    on = sym (f .1);
+                    ends-open = opened t (endOf t) 0 ends i r e (s .size) (f .1) (omega (arith, shallow)) ee (λ h. up i s l er h .1 .0);
+                    rules-open = opened t (asksForRules t) false rules i r asks (s .rules-size) (f .1) (omega (arith, shallow)) ea (λ h. up i s l er h .1 .1);
+                  } in
+                  rw z at a;
+              before = below-more (λ j. None (nodeRefusals t j)) i (s .before) ef;
+              seen = with-node rule-here;
+            }
+
+        -- node i holds nothing: its parent stays the deepest that is open
+        pub next : span t i ≤ 1 → Passed ends rules (conforming && Bool·beq rule (getD rules r false)) r (i + 1)
+        next h = record {
           whole = s .whole;
           inside = omega arith;
-          few = lr;
-          size = length-set ends (r + 1) e ∙ s .size;
-          table = getD-set-other ends (r + 1) 0 e 0 (λ q. omega arith) ∙ s .table;
+          few = omega (arith, shallow);
+          size = s .size;
+          rules-size = s .rules-size;
+          table = s .table;
+          group = s .group;
           first = λ q. absurd (omega arith);
-          root = λ _. ⊎-elim (λ (z : i ≡ 0). ap (span t) (sym z) ∙ g .root z) (λ (z : 0 < i). s .root z) (eq-zero-or-pos i);
-          last = λ p q.
+          root = λ _. root-whole;
+          last = λ p q m.
               let z : i ≡ p = omega arith in
-              (sym (f .1) ∙ ap (level t) z, rw z at (opened i e s l (f .1) (omega arith) ee));
+              rw z at (after (positive m) m);
           before = below-more (λ j. None (nodeRefusals t j)) i (s .before) ef;
+          seen = with-node rule-here;
         }
+          where
+            -- the root holds all others
+            positive : i + 1 < n → 0 < i
+            positive m =
+                ⊎-elim (λ (z : i ≡ 0). absurd (omega (arith, s .whole, root-whole, ap (span t) z))) (λ (z : 0 < i). z) (eq-zero-or-pos i)
+
+            after : 0 < i → i + 1 < n → After ends rules r i
+            after k m =
+                let u = up i s l er k in
+                record {
+                  q = parent t i;
+                  earlier = omega (arith, parent-below t i k);
+                  over = latest-next t (suc i) i (omega arith) ∙ latest-climb t (suc i) i k (omega arith);
+                  on = u .0;
+                  ends-open = u .1 .0;
+                  rules-open = u .1 .1;
+                }
 
     -- a node that is refused ends the reading
-    pub stopped : (i f : ℕ) → None (headerRefusals t) → Passed ends depth i → i < n → f ≡ firstNumber (nodeRefusals t i) → (f ≡ 0 → ⊥) →
+    pub stopped : (i f : ℕ) → None (headerRefusals t) → Passed ends rules conforming depth i → i < n → f ≡ firstNumber (nodeRefusals t i) → (f ≡ 0 → ⊥) →
         refused f i ≡ reading t
     stopped i f h s l e ne = node-refused t h i f (omega (arith, s .whole)) (s .before) e ne
 
-    -- after the last node the reading ends with the count
-    pub finished : (i : ℕ) → None (headerRefusals t) → Passed ends depth i → n ≤ i → counted n ≡ reading t
+    -- after the last node the reading ends with the count, and all nodes were seen
+    pub finished : (i : ℕ) → None (headerRefusals t) → Passed ends rules conforming depth i → n ≤ i → (counted (count t) ≡ reading t) × (conforming ≡ conforms t)
+    unfolding conforms
     finished i h s l =
-        ap counted (s .whole)
-        ∙ sym (accepted-reading t (passed-accepted t h (λ j m. s .before j (omega (arith, s .whole)))))
+        let e : i ≡ count t = omega (arith, s .whole, s .inside) in (
+          sym (accepted-reading t (passed-accepted t h (λ j m. s .before j (omega (arith, s .whole))))),
+          s .seen ∙ ap (λ k. everyBelow k (nodeConforms t)) e,
+        )

@@ -3,3 +3,4 @@ pub mod Tree
 pub mod Reading
 pub mod WellFormed
 pub mod Open
+pub mod Conformance

@@ -16,12 +16,15 @@ use answer::Answer;
 use answer::FIELDS;
 use combining::Kind;
 ghost use mathlib.Core.Path.{_≡_};
+ghost use mathlib.Core.Bool.{_&&_};
 ghost use Prim.Native.Nat.{_+_, _≤_, _<_};
+ghost use lib.Dec.{eqb};
 ghost use Rattle.answer.specs.Fields.{fields};
 ghost use Rattle.answer.specs.Refusals.{firstNumber};
 ghost use Rattle.table.specs.Layout.{HeaderHeld, NodeHeld};
 ghost use Rattle.table.specs.Tree.{isRule, level};
 ghost use Rattle.table.specs.Open.{deepest, EndAbove};
+ghost use Rattle.table.specs.Conformance.{asksForRules, conforms};
 ghost use Rattle.table.specs.Reading.{lengthFault, versionFault, countFault, oddSpan, spanFault, rangeFault, rangesFault, cardFault};
 ghost use Rattle.table.specs.Reading.{headerRefusals, refusalsAfterKind, nodeRefusals, reading};
 
@@ -194,17 +197,52 @@ fn depth_above(ends: &[usize; LEVELS + 1], depth: usize, i: usize) -> usize
     0
 }
 
-// Reads a table: the number of its nodes, or the first refusal.
-pub fn read(table: &[u8]) -> Answer
-    ensures { λ r. ⌜ r ≡ reading (now (table .entry)) ⌝ }
+// Whether node i is a rule.
+pub fn rule_at(table: &[u8], i: usize) -> bool
+    requires { ⌜ NodeHeld (now table) i ⌝ }
+    ensures { λ r. ⌜ r ≡ isRule (now (table .entry)) i ⌝ }
+{
+    Kind::PERMIT_RULE <= kind_at(table, i)
+}
+
+// Whether group i, which holds something, asks for rules.
+fn asks_for_rules(table: &[u8], i: usize) -> bool
+    requires { ⌜ NodeHeld (now table) i × NodeHeld (now table) (i + 1) ⌝ }
+    ensures { λ r. ⌜ r ≡ asksForRules (now (table .entry)) i ⌝ }
+{
+    if kind_at(table, i) == Kind::ONLY_ONE_APPLICABLE {
+        false
+    } else {
+        rule_at(table, i + 1)
+    }
+}
+
+// What a reading finds: the number and the place of the first refusal, or 0; and where there is none, whether the table conforms to the
+// convention profile.
+pub struct Reading {
+    pub number: u8,
+    pub place: usize,
+    pub conforms: bool,
+}
+
+// Reads a table, and sees whether it conforms: each node is a rule or a group, as is asked for where it stands.
+pub fn read_conformance(table: &[u8]) -> Reading
+    ensures { λ r. ⌜ (r .number ≡ reading (now (table .entry)) .number) × (r .place ≡ reading (now (table .entry)) .place) ⌝ }
+    ensures { λ r. ⌜ r .conforms ≡ (eqb (r .number) 0 && conforms (now (table .entry))) ⌝ }
 {
     let number = header_fault(table);
     if number != 0 {
-        return Answer::refused(number, 0);
+        return Reading {
+            number,
+            place: 0,
+            conforms: false,
+        };
     }
     let n = count_at(table);
-    // Where the open node of each level ends. Level 0 is the table itself.
+    // Where the open node of each level ends, and whether it asks for rules. Level 0 is the table itself, which asks for a group.
     let mut ends = [n; LEVELS + 1];
+    let mut rules = [false; LEVELS + 1];
+    let mut conforms = true;
     let mut depth = 0;
     let mut i = 0;
     while i < n {
@@ -212,11 +250,37 @@ pub fn read(table: &[u8]) -> Answer
         let above = ends[depth];
         let number = node_fault(table, i, above, depth);
         if number != 0 {
-            return Answer::refused(number, i);
+            return Reading {
+                number,
+                place: i,
+                conforms: false,
+            };
         }
-        depth += 1;
-        ends[depth] = i + span_at(table, i);
+        conforms = conforms & (rule_at(table, i) == rules[depth]);
+        let span = span_at(table, i);
+        // A node that holds nothing is not opened.
+        if 1 < span {
+            depth += 1;
+            ends[depth] = i + span;
+            rules[depth] = asks_for_rules(table, i);
+        }
         i += 1;
     }
-    Answer::counted(n)
+    Reading {
+        number: 0,
+        place: 0,
+        conforms,
+    }
+}
+
+// Reads a table: the number of its nodes, or the first refusal.
+pub fn read(table: &[u8]) -> Answer
+    ensures { λ r. ⌜ r ≡ reading (now (table .entry)) ⌝ }
+{
+    let found = read_conformance(table);
+    if found.number != 0 {
+        Answer::refused(found.number, found.place)
+    } else {
+        Answer::counted(count_at(table))
+    }
 }
