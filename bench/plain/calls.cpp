@@ -114,7 +114,9 @@ inline kolfsein_answer read_keeping(const uint8_t *table, size_t length) {
             return refused(KOLFSEIN_CARD, i);
         }
         kept.see(depth, i, record, rule);
-        ends[++depth] = i + span;
+        if (span > 1) {  // a node that holds nothing opens no level
+            ends[++depth] = i + span;
+        }
     }
     return kept.settled(table, nodes);
 }
