@@ -13,7 +13,7 @@ use Rattle.answer.proofs.Settling.{all-join, all-upward}
 use Rattle.answer.proofs.Tests.{and-true, and-false}
 use Rattle.combining.specs.Ways.{any}
 use Rattle.table.specs.Layout.{count}
-use Rattle.table.specs.Tree.{isRule, endOf, parent}
+use Rattle.table.specs.Tree.{isRule, parent}
 use Rattle.table.specs.Reading.{tableRefusals, Accepted}
 use Rattle.table.specs.Conformance.{asksForRules, ruleAsked, nodeConforms, conforms}
 use Rattle.table.proofs.AcceptedIsWellFormed.{well-formed}
@@ -101,47 +101,47 @@ module _ (t : List ℕ) (s : Standard t) where
   accepted : Accepted t
   accepted = standard-accepted t s
 
+  -- where node i holds no node that passes a test, no node whose parent it is passes it
+  child-fails : (i : ℕ) (p : ℕ → Bool) → any p (childrenOf t i) ≡ false → (k : ℕ) → 0 < k → k < count t → parent t k ≡ i → p k ≡ false
+  child-fails i p e = each-child t i (λ k. p k ≡ false) (each-fails p (childrenOf t i) e)
+
   -- in a table of the profile a node that has a parent is as its parent asks for
   module _ (j : ℕ) (some : 0 < j) (l : j < count t) where
     abbrev above : ℕ
     above = parent t j
 
-    below : above < count t
-    below = omega (arith, parent-below t j some)
+    below : above < j
+    below = parent-below t j some
 
-    over : j < endOf t above
-    over = parent-over t (well-formed t accepted) j some l
-
-    -- where the parent holds no node that passes a test, neither node j nor the first child passes it
-
-    fails : (p : ℕ → Bool) → any p (childrenOf t above) ≡ false → p j ≡ false
-    fails p e = each-child t above (λ k. p k ≡ false) (each-fails p (childrenOf t above) e) j some l refl
+    inside : above < count t
+    inside = omega (arith, below)
 
     first-fails : (p : ℕ → Bool) → any p (childrenOf t above) ≡ false → p (above + 1) ≡ false
     first-fails p e =
-        each-child t above (λ k. p k ≡ false) (each-fails p (childrenOf t above) e) (above + 1) (omega arith) (omega (arith, parent-below t j some))
-        (first-child t (well-formed t accepted) above below (omega (arith, over, parent-below t j some)))
+        let w = well-formed t accepted in
+        child-fails above p e (above + 1) (omega arith) (omega (arith, below))
+        (first-child t w above inside (omega (arith, below, parent-over t w j some l)))
 
     holds : (p : ℕ → Bool) → p j ≡ true → any p (childrenOf t above) ≡ true
     holds p e = by (any p (childrenOf t above)) refl
       where
         by : (b : Bool) → any p (childrenOf t above) ≡ b → any p (childrenOf t above) ≡ true
         by true h = h
-        by false h = absurd (true≢false (sym e ∙ fails p h))
+        by false h = absurd (true≢false (sym e ∙ child-fails above p h j some l refl))
 
     asked-rule : isRule t j ≡ true → asksForRules t above ≡ true
     unfolding holdsRule holdsGroup
     asked-rule e =
         let rules : holdsRule t above ≡ true = holds (isRule t) e in
-        let one : onlyOne t above ≡ false = sym (and-true (onlyOne t above)) ∙ sym (in-only-one-by t above refl (sym rules)) ∙ no-rule-in-only-one t s above below in
-        let groups : holdsGroup t above ≡ false = sym (mixed-by t above (sym rules) refl) ∙ not-mixed t s above below in
+        let one : onlyOne t above ≡ false = sym (and-true (onlyOne t above)) ∙ sym (in-only-one-by t above refl (sym rules)) ∙ no-rule-in-only-one t s above inside in
+        let groups : holdsGroup t above ≡ false = sym (mixed-by t above (sym rules) refl) ∙ not-mixed t s above inside in
         asks-by t above false one ∙ not-false (isRule t (above + 1)) (first-fails (λ k. not (isRule t k)) groups)
 
     asked-group : isRule t j ≡ false → asksForRules t above ≡ false
     unfolding holdsRule holdsGroup
     asked-group e =
         let groups : holdsGroup t above ≡ true = holds (λ k. not (isRule t k)) (ap not e) in
-        let rules : holdsRule t above ≡ false = sym (and-true (holdsRule t above)) ∙ sym (mixed-by t above refl (sym groups)) ∙ not-mixed t s above below in
+        let rules : holdsRule t above ≡ false = sym (and-true (holdsRule t above)) ∙ sym (mixed-by t above refl (sym groups)) ∙ not-mixed t s above inside in
         by (onlyOne t above) refl (first-fails (isRule t) rules)
       where
         by : (b : Bool) → onlyOne t above ≡ b → isRule t (above + 1) ≡ false → asksForRules t above ≡ false

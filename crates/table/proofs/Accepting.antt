@@ -93,14 +93,14 @@ module _ (t : List ℕ) where
     read-refused h = number-first refused (λ x. x .number) (λ number place. refl) (counted (count t)) refl (tableRefusals t) a e h
 
   -- what a caller of `read_conformance` learns
-  module _ (number place : ℕ) (en : number ≡ reading t .number) (ep : place ≡ reading t .place) where
-    pub found-accepted : number ≡ 0 → Accepted t
-    found-accepted z = read-accepted (reading t) refl (sym en ∙ z)
 
-    pub found-refused : (number ≡ 0 → ⊥) → refused number place ≡ reading t
-    found-refused h =
-        let r = read-refused (reading t) refl (λ z. h (en ∙ z)) in
-        ap₂ refused en ep ∙ ap (λ a. refused (a .number) (a .place)) (r .1 .1) ∙ sym (r .1 .1)
+  pub found-accepted : {number : ℕ} → number ≡ reading t .number → number ≡ 0 → Accepted t
+  found-accepted en z = read-accepted (reading t) refl (sym en ∙ z)
 
-    pub found-conforms : {s : Bool} → s ≡ (eqb number 0 && conforms t) → number ≡ 0 → s ≡ conforms t
-    found-conforms e z = e ∙ ap (λ b. b && conforms t) (eq-eqb number 0 z)
+  pub found-refused : {number place : ℕ} → (number ≡ reading t .number) × (place ≡ reading t .place) → (number ≡ 0 → ⊥) → refused number place ≡ reading t
+  found-refused e h =
+      let r = read-refused (reading t) refl (λ z. h (e .0 ∙ z)) in
+      ap₂ refused (e .0) (e .1) ∙ ap (λ a. refused (a .number) (a .place)) (r .1 .1) ∙ sym (r .1 .1)
+
+  pub found-conforms : {number : ℕ} {s : Bool} → s ≡ (eqb number 0 && conforms t) → number ≡ 0 → s ≡ conforms t
+  found-conforms {number} e z = e ∙ ap (λ b. b && conforms t) (eq-eqb number 0 z)

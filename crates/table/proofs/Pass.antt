@@ -1,6 +1,6 @@
 -- The pass over the nodes: what it holds before each node, what that says of the node, and how it goes on.
 -- Assumes nothing.
-use mathlib.Core.Path.{_≡_, refl, sym, ap, ap₂, _∙_}
+use mathlib.Core.Path.{_≡_, refl, sym, ap, ap₂, subst, _∙_}
 use mathlib.Core.Bool.{Bool, true, false, Bool·beq, cond, _&&_}
 use mathlib.Core.Logic.{⊎-elim}
 use mathlib.Core.List.{List}
@@ -77,135 +77,129 @@ module _ (t : List ℕ) (n : ℕ) where
     seen = refl;
   }
 
-  module _ (ends : List ℕ) (rules : List Bool) (conforming : Bool) (depth r : ℕ) where
-    -- the parent of node i is open, on the level that the climb finds
-    up : (i : ℕ) → Passed ends rules conforming depth i → i < n → r ≡ deepest ends i depth → 0 < i →
-        (r ≡ level t (parent t i)) × (Open t (endOf t) 0 ends (parent t i) × Open t (asksForRules t) false rules (parent t i))
-    up zero s l e h = absurd (omega arith)
-    up (suc p) s l e h =
-        let a = s .last p refl l in
-        let c = climb t ends p (a .q) (a .ends-open) (a .earlier) (omega (arith, s .whole, s .root (omega arith))) (a .over) in (
-          e ∙ ap (deepest ends (suc p)) (a .on) ∙ c .0,
-          (open-above t (endOf t) 0 ends (a .ends-open) (c .1), open-above t (asksForRules t) false rules (a .rules-open) (c .1)),
-        )
+module _ {t : List ℕ} {n : ℕ} {ends : List ℕ} {rules : List Bool} {conforming : Bool} {depth : ℕ} where
+  -- a node that is refused ends the reading
+  pub stopped : (i f : ℕ) → None (headerRefusals t) → Passed t n ends rules conforming depth i → i < n → f ≡ firstNumber (nodeRefusals t i) → (f ≡ 0 → ⊥) →
+      refused f i ≡ reading t
+  stopped i f h s l e ne = node-refused t h i f (omega (arith, s .whole)) (s .before) e ne
 
-    -- the open nodes tell where the nodes that node i stands among end, its level, and what is asked of it
-    pub found : (i : ℕ) → Passed ends rules conforming depth i → i < n → r ≡ deepest ends i depth →
-        EndAbove t i (getD ends r 0) × (level t i ≡ r + 1) × (getD rules r false ≡ ruleAsked t i)
-    unfolding ruleAsked
-    found zero s l e =
-        let z : r ≡ 0 = e ∙ ap (deepest ends 0) (s .first refl) in (
-          record { root = λ _. ap (λ k. getD ends k 0) z ∙ s .table; child = λ h. absurd (omega arith) },
-          omega (arith, level-root t),
-          ap (λ k. getD rules k false) z ∙ s .group,
-        )
-    found (suc p) s l e =
-        let h : 0 < suc p = omega arith in
-        let u = up (suc p) s l e h in (
-          record {
-            root = λ h. absurd (omega arith);
-            child = λ _. ap (λ k. getD ends k 0) (u .0) ∙ u .1 .0 .held (parent t (suc p)) itself;
-          },
-          omega (arith, u .0, level-child t (suc p) h),
-          ap (λ k. getD rules k false) (u .0)
-              ∙ u .1 .1 .held (parent t (suc p)) itself
-              ∙ sym (ap (λ b. cond b false (asksForRules t (parent t (suc p)))) (ne-eqb (suc p) 0 (λ q. omega arith))),
-        )
+  -- after the last node the reading ends with the count, and all nodes were seen
+  pub finished : {i : ℕ} → None (headerRefusals t) → Passed t n ends rules conforming depth i → n ≤ i →
+      (counted (count t) ≡ reading t) × (conforming ≡ conforms t)
+  unfolding conforms
+  finished {i} h s l =
+      let e : i ≡ count t = omega (arith, s .whole, s .inside) in (
+        sym (accepted-reading t (passed-accepted t h (λ j m. s .before j (omega (arith, s .whole))))),
+        s .seen ∙ ap (λ k. everyBelow k (nodeConforms t)) e,
+      )
 
-    module _ (i : ℕ) (s : Passed ends rules conforming depth i) (l : i < n) (er : r ≡ deepest ends i depth) (ef : None (nodeRefusals t i)) where
-      shallow : r + 1 ≤ 8
-      shallow = omega (arith, found i s l er .1, good t i ef .levels)
+module _ {t : List ℕ} {n : ℕ} {ends : List ℕ} {rules : List Bool} {conforming : Bool} {depth r : ℕ} where
+  -- the parent of node i is open, on the level that the climb finds
+  up : (i : ℕ) → Passed t n ends rules conforming depth i → i < n → r ≡ deepest ends i depth → 0 < i →
+      (r ≡ level t (parent t i)) × (Open t (endOf t) 0 ends (parent t i) × Open t (asksForRules t) false rules (parent t i))
+  up zero s l e h = absurd (omega arith)
+  up (suc p) s l e h =
+      let a = s .last p refl l in
+      let c = climb t ends p (a .q) (a .ends-open) (a .earlier) (omega (arith, s .whole, s .root (omega arith))) (a .over) in (
+        e ∙ ap (deepest ends (suc p)) (a .on) ∙ c .0,
+        (open-above t (endOf t) 0 ends (a .ends-open) (c .1), open-above t (asksForRules t) false rules (a .rules-open) (c .1)),
+      )
 
-      root-whole : span t 0 ≡ count t
-      root-whole = ⊎-elim (λ (z : i ≡ 0). ap (span t) (sym z) ∙ good t i ef .root z) (λ (z : 0 < i). s .root z) (eq-zero-or-pos i)
+  -- the open nodes tell where the nodes that node i stands among end, its level, and what is asked for there
+  pub found : (i : ℕ) → Passed t n ends rules conforming depth i → i < n → r ≡ deepest ends i depth →
+      EndAbove t i (getD ends r 0) × (level t i ≡ r + 1) × (getD rules r false ≡ ruleAsked t i)
+  unfolding ruleAsked
+  found zero s l e =
+      let z : r ≡ 0 = e ∙ ap (deepest ends 0) (s .first refl) in (
+        record { root = λ _. ap (λ k. getD ends k 0) z ∙ s .table; child = λ h. absurd (omega arith) },
+        omega (arith, level-root t),
+        ap (λ k. getD rules k false) z ∙ s .group,
+      )
+  found (suc p) s l e =
+      let h : 0 < suc p = omega arith in
+      let u = up (suc p) s l e h in (
+        record {
+          root = λ h. absurd (omega arith);
+          child = λ _. ap (λ k. getD ends k 0) (u .0) ∙ u .1 .0 .held (parent t (suc p)) itself;
+        },
+        omega (arith, u .0, level-child t (suc p) h),
+        ap (λ k. getD rules k false) (u .0)
+            ∙ u .1 .1 .held (parent t (suc p)) itself
+            ∙ sym (ap (λ b. cond b false (asksForRules t (parent t (suc p)))) (ne-eqb (suc p) 0 (λ q. omega arith))),
+      )
 
-      -- the lists say what is asked of it
-      with-node : {rule : Bool} → rule ≡ isRule t i → conforming && Bool·beq rule (getD rules r false) ≡ everyBelow (i + 1) (nodeConforms t)
+  -- node i passes too
+  module _ {i : ℕ} (s : Passed t n ends rules conforming depth i) (l : i < n) (er : r ≡ deepest ends i depth) (ef : None (nodeRefusals t i)) where
+    on-level : level t i ≡ r + 1
+    on-level = found i s l er .1
+
+    shallow : r + 1 ≤ 8
+    shallow = omega (arith, on-level, good t i ef .levels)
+
+    root-whole : span t 0 ≡ count t
+    root-whole = ⊎-elim (λ (z : i ≡ 0). ap (span t) (sym z) ∙ good t i ef .root z) (λ (z : 0 < i). s .root z) (eq-zero-or-pos i)
+
+    all-passed : (j : ℕ) → j < i + 1 → None (nodeRefusals t j)
+    all-passed = below-more (λ j. None (nodeRefusals t j)) i (s .before) ef
+
+    -- where it holds something, the next node is one of the table
+    pub next-held : 1 < span t i → i + 1 < count t
+    next-held h = omega (arith, ends-inside t (i + 1) (λ j m. good t j (all-passed j m)) i (omega arith))
+
+    -- where what is kept of the open nodes is so after it, the pass goes on
+    module _ {rule : Bool} (e : rule ≡ isRule t i) where
+      went-on : {ends' : List ℕ} {rules' : List Bool} {depth' : ℕ} → depth' ≤ 8 → (length ends' ≡ 9) × (length rules' ≡ 9) →
+          (getD ends' 0 0 ≡ getD ends 0 0) × (getD rules' 0 false ≡ getD rules 0 false) → (i + 1 < n → After t n ends' rules' depth' i) →
+          Passed t n ends' rules' (conforming && Bool·beq rule (getD rules r false)) depth' (i + 1)
       unfolding nodeConforms
-      with-node e = ap₂ (λ b c. b && c) (s .seen) (ap₂ Bool·beq e (found i s l er .2)) ∙ sym (every-next (nodeConforms t) i)
+      went-on {ends'} {rules'} {depth'} few sizes kept after = record {
+        whole = s .whole;
+        inside = omega arith;
+        few = few;
+        size = sizes .0;
+        rules-size = sizes .1;
+        table = kept .0 ∙ s .table;
+        group = kept .1 ∙ s .group;
+        first = λ q. absurd (omega arith);
+        root = λ _. root-whole;
+        last = λ p q m. let z : i ≡ p = omega arith in subst (After t n ends' rules' depth') z (after m);
+        before = all-passed;
+        seen = ap₂ (λ b c. b && c) (s .seen) (ap₂ Bool·beq e (found i s l er .2)) ∙ sym (every-next (nodeConforms t) i);
+      }
 
-      -- where it holds something, the next node is one of the table
-      pub next-held : 1 < span t i → i + 1 < count t
-      next-held h = omega (arith, ends-inside t (i + 1) (λ j m. good t j (below-more (λ j. None (nodeRefusals t j)) i (s .before) ef j m)) i (omega arith))
+      -- node i holds something, and is opened
+      pub next-opened : (end : ℕ) → end ≡ endOf t i → (asks : Bool) → asks ≡ asksForRules t i →
+          Passed t n (set ends (r + 1) end) (set rules (r + 1) asks) (conforming && Bool·beq rule (getD rules r false)) (r + 1) (i + 1)
+      next-opened end ee asks ea =
+          went-on shallow (length-set ends (r + 1) end ∙ s .size, length-set rules (r + 1) asks ∙ s .rules-size)
+          (getD-set-other ends (r + 1) 0 end 0 (λ q. omega arith), getD-set-other rules (r + 1) 0 asks false (λ q. omega arith))
+          (λ m. record {
+            q = i;
+            earlier = omega arith;
+            over = refl;
+            on = sym on-level;
+            ends-open = opened t (endOf t) 0 ends i r end (s .size) on-level (omega (arith, shallow)) ee (λ h. up i s l er h .1 .0);
+            rules-open = opened t (asksForRules t) false rules i r asks (s .rules-size) on-level (omega (arith, shallow)) ea (λ h. up i s l er h .1 .1);
+          })
 
-      module _ {rule : Bool} (rule-here : rule ≡ isRule t i) where
-        -- node i holds something, and is opened
-        pub next-opened : (e : ℕ) → e ≡ endOf t i → (asks : Bool) → asks ≡ asksForRules t i →
-            Passed (set ends (r + 1) e) (set rules (r + 1) asks) (conforming && Bool·beq rule (getD rules r false)) (r + 1) (i + 1)
-        next-opened e ee asks ea =
-            let f = found i s l er in
-            record {
-              whole = s .whole;
-              inside = omega arith;
-              few = shallow;
-              size = length-set ends (r + 1) e ∙ s .size;
-              rules-size = length-set rules (r + 1) asks ∙ s .rules-size;
-              table = getD-set-other ends (r + 1) 0 e 0 (λ q. omega arith) ∙ s .table;
-              group = getD-set-other rules (r + 1) 0 asks false (λ q. omega arith) ∙ s .group;
-              first = λ q. absurd (omega arith);
-              root = λ _. root-whole;
-              last = λ p q m.
-                  let z : i ≡ p = omega arith in
-                  let a : After (set ends (r + 1) e) (set rules (r + 1) asks) (r + 1) i =
-                  record {
-                    q = i;
-                    earlier = omega arith;
-                    over = refl;
-                    on = sym (f .1);
-                    ends-open = opened t (endOf t) 0 ends i r e (s .size) (f .1) (omega (arith, shallow)) ee (λ h. up i s l er h .1 .0);
-                    rules-open = opened t (asksForRules t) false rules i r asks (s .rules-size) (f .1) (omega (arith, shallow)) ea (λ h. up i s l er h .1 .1);
-                  } in
-                  rw z at a;
-              before = below-more (λ j. None (nodeRefusals t j)) i (s .before) ef;
-              seen = with-node rule-here;
-            }
+      -- node i holds nothing: its parent stays the deepest that is open
+      pub next : span t i ≤ 1 → Passed t n ends rules (conforming && Bool·beq rule (getD rules r false)) r (i + 1)
+      next h = went-on (omega (arith, shallow)) (s .size, s .rules-size) (refl, refl) after
+        where
+          -- the root holds all others
+          positive : i + 1 < n → 0 < i
+          positive m =
+              ⊎-elim (λ (z : i ≡ 0). absurd (omega (arith, s .whole, root-whole, ap (span t) z))) (λ (z : 0 < i). z) (eq-zero-or-pos i)
 
-        -- node i holds nothing: its parent stays the deepest that is open
-        pub next : span t i ≤ 1 → Passed ends rules (conforming && Bool·beq rule (getD rules r false)) r (i + 1)
-        next h = record {
-          whole = s .whole;
-          inside = omega arith;
-          few = omega (arith, shallow);
-          size = s .size;
-          rules-size = s .rules-size;
-          table = s .table;
-          group = s .group;
-          first = λ q. absurd (omega arith);
-          root = λ _. root-whole;
-          last = λ p q m.
-              let z : i ≡ p = omega arith in
-              rw z at (after (positive m) m);
-          before = below-more (λ j. None (nodeRefusals t j)) i (s .before) ef;
-          seen = with-node rule-here;
-        }
-          where
-            -- the root holds all others
-            positive : i + 1 < n → 0 < i
-            positive m =
-                ⊎-elim (λ (z : i ≡ 0). absurd (omega (arith, s .whole, root-whole, ap (span t) z))) (λ (z : 0 < i). z) (eq-zero-or-pos i)
-
-            after : 0 < i → i + 1 < n → After ends rules r i
-            after k m =
-                let u = up i s l er k in
-                record {
-                  q = parent t i;
-                  earlier = omega (arith, parent-below t i k);
-                  over = latest-next t (suc i) i (omega arith) ∙ latest-climb t (suc i) i k (omega arith);
-                  on = u .0;
-                  ends-open = u .1 .0;
-                  rules-open = u .1 .1;
-                }
-
-    -- a node that is refused ends the reading
-    pub stopped : (i f : ℕ) → None (headerRefusals t) → Passed ends rules conforming depth i → i < n → f ≡ firstNumber (nodeRefusals t i) → (f ≡ 0 → ⊥) →
-        refused f i ≡ reading t
-    stopped i f h s l e ne = node-refused t h i f (omega (arith, s .whole)) (s .before) e ne
-
-    -- after the last node the reading ends with the count, and all nodes were seen
-    pub finished : (i : ℕ) → None (headerRefusals t) → Passed ends rules conforming depth i → n ≤ i → (counted (count t) ≡ reading t) × (conforming ≡ conforms t)
-    unfolding conforms
-    finished i h s l =
-        let e : i ≡ count t = omega (arith, s .whole, s .inside) in (
-          sym (accepted-reading t (passed-accepted t h (λ j m. s .before j (omega (arith, s .whole))))),
-          s .seen ∙ ap (λ k. everyBelow k (nodeConforms t)) e,
-        )
+          after : i + 1 < n → After t n ends rules r i
+          after m =
+              let k = positive m in
+              let u = up i s l er k in
+              record {
+                q = parent t i;
+                earlier = omega (arith, parent-below t i k);
+                over = latest-next t (suc i) i (omega arith) ∙ latest-climb t (suc i) i k (omega arith);
+                on = u .0;
+                ends-open = u .1 .0;
+                rules-open = u .1 .1;
+              }

@@ -1,4 +1,5 @@
--- What a reading sees of the convention profile: whether each node is a rule or a group, as is asked for where it stands.
+-- What a reading sees of the convention profile, paper 3 of document 02: whether each node is a rule or a group, as is asked for where it
+-- stands (for the contracts inside the library; what the profile refuses is defined by itself, in the crate `standard`).
 -- Assumes nothing: these are definitions.
 use mathlib.Core.Bool.{Bool, false, Bool·beq, cond}
 use mathlib.Core.List.{List}
@@ -9,11 +10,12 @@ use Rattle.combining.specs.Kinds.{onlyOneApplicableKind}
 use Rattle.table.specs.Layout.{count, kind}
 use Rattle.table.specs.Tree.{isRule, parent}
 
--- a group asks for rules where its first child is one, unless it is only one applicable
+-- that no group "holds rules and groups" and no "'only one' group holds a rule": a group asks for rules where its first child is one, unless it
+-- is only one applicable
 unfoldable pub asksForRules : List ℕ → ℕ → Bool
 asksForRules t i = cond (eqb (kind t i) onlyOneApplicableKind) false (isRule t (i + 1))
 
--- a rule is asked for at node i: not at the root, at any other node where its parent asks for rules
+-- that not "the root is a rule": a rule is asked for at no root, and at any other node where its parent asks for rules
 unfoldable pub ruleAsked : List ℕ → ℕ → Bool
 ruleAsked t i = cond (eqb i 0) false (asksForRules t (parent t i))
 

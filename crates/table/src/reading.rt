@@ -181,8 +181,8 @@ fn node_fault(table: &[u8], i: usize, above: usize, depth: usize) -> u8
     }
 }
 
-// The level of the node right above node i, by climbing from the node before it: ends says where the open node of each
-// level ends. A node opens one level and that is left once, so all climbs together leave no more levels than there are nodes.
+// The level of the node right above node i, by climbing from the deepest level that is open: ends says where the open node of each
+// level ends. A node opens at most one level and that is left once, so all climbs together leave no more levels than there are nodes.
 fn depth_above(ends: &[usize; LEVELS + 1], depth: usize, i: usize) -> usize
     requires { ⌜ depth ≤ 8 ⌝ }
     ensures { λ r. ⌜ (r ≡ deepest (now (ends .entry)) i depth) × (r ≤ depth) ⌝ }
@@ -202,7 +202,11 @@ pub fn rule_at(table: &[u8], i: usize) -> bool
     requires { ⌜ NodeHeld (now table) i ⌝ }
     ensures { λ r. ⌜ r ≡ isRule (now (table .entry)) i ⌝ }
 {
-    Kind::PERMIT_RULE <= kind_at(table, i)
+    let kind = kind_at(table, i);
+    match kind {
+        Kind::FIRST_APPLICABLE..=Kind::DENY_OVERRIDES => false,
+        _ => true,
+    }
 }
 
 // Whether group i, which holds something, asks for rules.

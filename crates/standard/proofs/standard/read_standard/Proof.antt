@@ -24,17 +24,13 @@ module _ (c : tie.Else1) where
   read = c .before .before
 
   accepted : Accepted (table read)
-  accepted =
-      let e = read .read-conformance .ensures .0 in
-      found-accepted (table read) (read .read-conformance .result .number) (read .read-conformance .result .place) (e .0) (e .1) (c .if1 .left)
+  accepted = found-accepted (table read) (read .read-conformance .ensures .0 .0) (c .if1 .left)
 
 returns : tie.Need-returns
 returns c =
     let r = c .before .before .before in
-    let e = r .read-conformance .ensures .0 in
     c .refused .ensures
-    ∙ standard-refused (table r) _
-    (found-refused (table r) (r .read-conformance .result .number) (r .read-conformance .result .place) (e .0) (e .1) (c .before .if1 .taken)) (c .before .if1 .taken)
+    ∙ standard-refused (table r) _ (found-refused (table r) (r .read-conformance .ensures .0) (c .before .if1 .taken)) (c .before .if1 .taken)
 
 count-at-requires : tie.Need-count-at-requires
 count-at-requires c κs =
@@ -44,12 +40,11 @@ returns-2 : tie.Need-returns-2
 returns-2 c =
     let s = c .before .before in
     let e = s .before in
-    let r = read e .read-conformance in
     c .counted .ensures
     ∙ ap counted (c .before .count-at .ensures .0)
     ∙ standard-counted (table (read e))
     (conforming-standard (table (read e)) (accepted e)
-    (sym (found-conforms (table (read e)) (r .result .number) (r .result .place) (r .ensures .0 .0) (r .ensures .0 .1) (r .ensures .1) (e .if1 .left)) ∙ s .if2 .taken))
+    (sym (found-conforms (table (read e)) (read e .read-conformance .ensures .1) (e .if1 .left)) ∙ s .if2 .taken))
 
 read-profile-requires : tie.Need-read-profile-requires
 read-profile-requires c κs = let e = c .before in well-formed (table (read e)) (accepted e)

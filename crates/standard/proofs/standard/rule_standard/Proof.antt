@@ -44,14 +44,10 @@ module _ (c : tie.Else1) where
   read = c .before .before
 
   accepted : Accepted (table (cleared read))
-  accepted =
-      let r = read .read-conformance in
-      found-accepted (table (cleared read)) (r .result .number) (r .result .place) (r .ensures .0 .0) (r .ensures .0 .1) (c .if1 .left)
+  accepted = found-accepted (table (cleared read)) (read .read-conformance .ensures .0 .0) (c .if1 .left)
 
   seen : read .read-conformance .result .conforms ≡ conforms (table (cleared read))
-  seen =
-      let r = read .read-conformance in
-      found-conforms (table (cleared read)) (r .result .number) (r .result .place) (r .ensures .0 .0) (r .ensures .0 .1) (r .ensures .1) (c .if1 .left)
+  seen = found-conforms (table (cleared read)) (read .read-conformance .ensures .1) (c .if1 .left)
 
 -- where the table is one of the profile
 standard : (c : tie.Else2) → Standard (table (cleared (read (c .before .before))))
@@ -63,11 +59,7 @@ returns : tie.Need-returns
 returns c =
     let r = c .before .before .before in
     let s = cleared r in
-    let f =
-    read-refused (table s) _
-    (found-refused (table s) (r .read-conformance .result .number) (r .read-conformance .result .place) (r .read-conformance .ensures .0 .0) (r .read-conformance .ensures .0 .1)
-    (c .before .if1 .taken))
-    (c .before .if1 .taken) in
+    let f = read-refused (table s) _ (found-refused (table s) (r .read-conformance .ensures .0) (c .before .if1 .taken)) (c .before .if1 .taken) in
     turned-away (standardRefusals (table s)) (table s) (subjects s) (others s) (places s) (c .refused .result) (s .clear .last .0)
     (first-in (tableRefusals (table s)) (profileRefusals (table s)) (f .1 .0)) (c .refused .ensures ∙ f .1 .1) (s .clear .ensures)
 

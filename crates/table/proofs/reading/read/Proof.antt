@@ -17,9 +17,7 @@ table c = c .before .before .args .table .now
 -- the table was accepted
 accepted : (c : tie.Else1) → Accepted (table (c .before .before))
 accepted c =
-    let r = c .before .before in
-    let e = r .read-conformance .ensures .0 in
-    found-accepted (table r) (r .read-conformance .result .number) (r .read-conformance .result .place) (e .0) (e .1) (c .if1 .left)
+    let r = c .before .before in found-accepted (table r) (r .read-conformance .ensures .0 .0) (c .if1 .left)
 
 count-at-requires : tie.Need-count-at-requires
 count-at-requires c κs = let t = table (c .before .before) in headed t (accepted-header t (accepted c)) .long
@@ -27,9 +25,7 @@ count-at-requires c κs = let t = table (c .before .before) in headed t (accepte
 returns : tie.Need-returns
 returns c =
     let r = c .before .before .before in
-    let e = r .read-conformance .ensures .0 in
-    c .refused .ensures
-    ∙ found-refused (table r) (r .read-conformance .result .number) (r .read-conformance .result .place) (e .0) (e .1) (c .before .if1 .taken)
+    c .refused .ensures ∙ found-refused (table r) (r .read-conformance .ensures .0) (c .before .if1 .taken)
 
 returns-2 : tie.Need-returns-2
 returns-2 c =

@@ -55,8 +55,7 @@ module _ (c : tie.After-depth-above Inv-loop μ-loop) where
       × (level (table (at .before .before)) (at .loop .i) ≡ c .depth-above .result + 1)
       × (getD (at .loop .rules) (c .depth-above .result) false ≡ ruleAsked (table (at .before .before)) (at .loop .i))
   found =
-      pass.found (table (at .before .before)) (at .before .count-at .result) (at .loop .ends) (at .loop .rules) (at .loop .conforms) (at .loop .depth)
-      (c .depth-above .result) (at .loop .i) (at .loop .inv) (c .before .before .loop-test .taken) (c .depth-above .ensures .0)
+      pass.found (at .loop .i) (at .loop .inv) (c .before .before .loop-test .taken) (c .depth-above .ensures .0)
 
 -- node i passed
 module _ (c : tie.Else2 Inv-loop μ-loop) where
@@ -93,9 +92,7 @@ returns-2 c =
     let a = at d in
     let f = c .before .node-fault in
     turned-away (table (a .before .before)) (f .result) (a .loop .i)
-    (pass.stopped (table (a .before .before)) (a .before .count-at .result) (a .loop .ends) (a .loop .rules) (a .loop .conforms) (a .loop .depth)
-    (d .depth-above .result) (a .loop .i) (f .result) (passed (a .before .before)) (a .loop .inv) (d .before .before .loop-test .taken) (f .ensures)
-    (c .if2 .taken))
+    (pass.stopped (a .loop .i) (f .result) (passed (a .before .before)) (a .loop .inv) (d .before .before .loop-test .taken) (f .ensures) (c .if2 .taken))
     (c .if2 .taken)
 
 rule-at-requires : tie.Need-rule-at-requires Inv-loop μ-loop
@@ -128,9 +125,8 @@ asks-for-rules-requires c κs =
     let s = state b in (
       held (above n .before .before),
       node-held (whole b) (headed (whole b) (passed (s .before .before)) .records) (s .loop .i + 1)
-          (pass.next-held (whole b) (s .before .count-at .result) (s .loop .ends) (s .loop .rules) (s .loop .conforms) (s .loop .depth)
-          (above n .depth-above .result) (s .loop .i) (s .loop .inv) (above n .before .before .loop-test .taken) (above n .depth-above .ensures .0)
-          (node-passes n) (omega (arith, b .span-at .ensures .0, c .if3 .taken))),
+          (pass.next-held (s .loop .inv) (above n .before .before .loop-test .taken) (above n .depth-above .ensures .0) (node-passes n)
+          (omega (arith, b .span-at .ensures .0, c .if3 .taken))),
     )
 
 array-write-rules : tie.Need-array-write-rules Inv-loop μ-loop
@@ -144,22 +140,18 @@ loop-again c =
     ⊎-elim
     (λ x.
     rw (x .2) (rw (x .3) (rw (x .4)
-    (pass.next-opened (whole b) (s .before .count-at .result) (s .loop .ends) (s .loop .rules) (s .loop .conforms) (s .loop .depth)
-    (above n .depth-above .result) (s .loop .i) (s .loop .inv) (above n .before .before .loop-test .taken) (above n .depth-above .ensures .0)
-    (node-passes n) (b .before .rule-at .ensures) _ (ap (λ (k : ℕ). s .loop .i + k) (b .span-at .ensures .0)) _ (x .1 .ensures)))))
+    (pass.next-opened (s .loop .inv) (above n .before .before .loop-test .taken) (above n .depth-above .ensures .0) (node-passes n)
+    (b .before .rule-at .ensures) _ (ap (λ (k : ℕ). s .loop .i + k) (b .span-at .ensures .0)) _ (x .1 .ensures)))))
     (λ x.
     rw (x .1) (rw (x .2) (rw (x .3)
-    (pass.next (whole b) (s .before .count-at .result) (s .loop .ends) (s .loop .rules) (s .loop .conforms) (s .loop .depth)
-    (above n .depth-above .result) (s .loop .i) (s .loop .inv) (above n .before .before .loop-test .taken) (above n .depth-above .ensures .0)
-    (node-passes n) (b .before .rule-at .ensures) (omega (arith, b .span-at .ensures .0, x .0 .left))))))
+    (pass.next (s .loop .inv) (above n .before .before .loop-test .taken) (above n .depth-above .ensures .0) (node-passes n) (b .before .rule-at .ensures)
+    (omega (arith, b .span-at .ensures .0, x .0 .left))))))
     (c .if3 .came)
 
 returns-3 : tie.Need-returns-3 Inv-loop μ-loop
 returns-3 c =
     let a = c .before in
-    let f =
-    pass.finished (table (a .before .before)) (a .before .count-at .result) (a .loop .ends) (a .loop .rules) (a .loop .conforms) (a .loop .depth) 0 (a .loop .i)
-    (passed (a .before .before)) (a .loop .inv) (c .loop-test .left) in
+    let f = pass.finished (passed (a .before .before)) (a .loop .inv) (c .loop-test .left) in
     ((ap (λ x. x .number) (f .0), ap (λ x. x .place) (f .0)), f .1)
 
 pub read-conformance-spec : {M : Type 1} → statement M
