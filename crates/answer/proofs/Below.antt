@@ -92,6 +92,10 @@ module _ (p : ℕ → Bool) where
 
 -- two tests that say the same
 
+pub every-same : (p q : ℕ → Bool) (n : ℕ) → ((j : ℕ) → j < n → p j ≡ q j) → everyBelow n p ≡ everyBelow n q
+every-same p q zero e = refl
+every-same p q (suc n) e = ap₂ (λ a b. a && b) (every-same p q n (λ j l. e j (omega arith))) (e n (omega arith))
+
 pub some-same : (p q : ℕ → Bool) (n : ℕ) → ((j : ℕ) → j < n → p j ≡ q j) → someBelow n p ≡ someBelow n q
 unfolding someBelow
 some-same p q zero e = refl

@@ -10,10 +10,9 @@ use native.Mathlib.Omega.{arith}
 use borrow.Author.Tests.{lt-ltb, le-ltb, eq-eqb, ne-eqb}
 use lib.Dec.{eqb, ltb}
 use Rattle.answer.proofs.Tests.{lt-or-ge}
-use Rattle.table.specs.Layout.{span, low, high, count}
+use Rattle.table.specs.Layout.{span, count}
 use Rattle.table.specs.Tree.{endOf}
 use Rattle.table.specs.WellFormed.{WellFormed}
-use Rattle.ruling.specs.Targets.{inRange}
 use Rattle.ruling.specs.Walk.{HoldAbove}
 use Rattle.ruling.proofs.Throughout.{throughout-under, throughout-is, pass-root, pass-down, pass-after}
 use Rattle.sets.specs.Sets.{has, Has}
@@ -21,10 +20,6 @@ use Rattle.sets.specs.declared.Set.{Set}
 use Rattle.applying.specs.Members.{rangeHolds, appliesIn, member}
 
 module _ (t : List ℕ) (f v : ℕ) where
-  -- node i's range of the field, as it is tested
-  pub range-tested : (i l h : ℕ) (b : Bool) → l ≡ low t i f → h ≡ high t i f → b ≡ inRange l h v → b ≡ rangeHolds t f v i
-  range-tested i l h b el eh e = e ∙ ap₂ (λ x y. inRange x y v) el eh
-
   -- where every range above a node holds, it applies in the field where its own does
   applies-is : (i : ℕ) → HoldAbove t (rangeHolds t f v) i → 1 ≤ span t i → appliesIn t f v i ≡ rangeHolds t f v i
   unfolding appliesIn

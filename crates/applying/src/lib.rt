@@ -1,11 +1,12 @@
 // For each value of a field, the set of nodes that apply there in that field alone.
 use answer::FIELDS;
-use ruling::targets::in_range;
+use ruling::targets::byte_in_range;
 use sets::Set;
 use table::layout::count_at;
-use table::layout::high_at;
-use table::layout::low_at;
+use table::layout::high_of;
+use table::layout::low_of;
 use table::layout::maximum_at;
+use table::layout::ranges_at;
 use table::layout::span_at;
 ghost use mathlib.Core.Path.{_≡_};
 ghost use Prim.Native.Nat.{ℕ, _≤_, _<_};
@@ -25,9 +26,8 @@ fn holds(table: &[u8], field: usize, value: u8, i: usize) -> bool
     requires { ⌜ NodeHeld (now table) i × (field < fields) ⌝ }
     ensures { λ r. ⌜ r ≡ rangeHolds (now (table .entry)) field value i ⌝ }
 {
-    let low = low_at(table, i, field);
-    let high = high_at(table, i, field);
-    in_range(low, high, value as u16)
+    let ranges = ranges_at(table, i);
+    byte_in_range(low_of(ranges, field), high_of(ranges, field), value)
 }
 
 // The nodes that apply in a field alone at a value: a node whose range fails is skipped with all nodes under it.

@@ -12,9 +12,11 @@ use Rattle.answer.specs.Answers.{refused, counted, ruled, zeros, padded}
 use Rattle.answer.specs.Rulings.{Ruling, answerOf}
 use Rattle.answer.proofs.Settling.{answers}
 use Rattle.table.specs.Layout.{maximum, maxima, count, kind}
+use Rattle.table.specs.Ranges.{rangesWord}
 use Rattle.table.specs.Reading.{tableRefusals, Accepted}
 use Rattle.table.proofs.Accepting.{accepted-reading}
 use Rattle.table.proofs.AcceptedIsWellFormed.{well-formed}
+use Rattle.table.proofs.Ranges.{ranges-fit, reads-back}
 use Rattle.ruling.specs.Targets.{targetHolds, applies}
 use Rattle.ruling.specs.Subjects.{mostSubjects, appliesToSome, size, AskedWithin}
 use Rattle.ruling.specs.Ruling.{groups, groupsTogether, rulingRefusals, ruling, ruledList}
@@ -26,6 +28,7 @@ use Rattle.ruling.proofs.SubjectsByParents.{applies-to-some-by-parents}
 use Rattle.ruling.proofs.ChildrenByParents.{children-by-parents}
 use Rattle.ruling.proofs.DecisionByChildren.{decision-by-children}
 use Rattle.ruling.proofs.CardsOfMatchingRules.{each-listed, number-of-cards}
+use Rattle.ruling.proofs.TargetFromWord.{target-from}
 use Rattle.ruling.proofs.OneSubject.{size-one, one-subject, one-asked}
 use Rattle.ruling.proofs.WithinTogether.{within-answered, ruled-exactly}
 use Rattle.standard.specs.Profile.{standardRefusals}
@@ -160,6 +163,9 @@ demands-hold =
       empty-as-printed = λ t a i h c l g. empty-as-printed a t (standard-accepted t h) c i l (leb-false 4 (kind t i) g);
       sets-closed = λ t s others c. applies-to-some-closed t (well-formed t c) s others;
       one-closed = λ t q c. applies-closed t (well-formed t c) q;
+      ranges-fit = ranges-fit;
+      ranges-read-back = λ t i f b. reads-back t i b f;
+      target-from-word = λ t q i b. target-from t i (rangesWord t i) (reads-back t i b) q;
       diagram-rules = through;
       equal-exactly = equal;
       decision-worded = λ t q c. sym (decision-as-worded t q c 0 (well-formed t c .some) (pass-root t (targetHolds t q)));

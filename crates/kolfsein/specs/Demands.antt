@@ -15,11 +15,12 @@ use Rattle.answer.specs.Rulings.{Ruling, answerOf}
 use Rattle.answer.specs.declared.Answer.{Answer}
 use Rattle.combining.specs.Kinds.{onlyOneApplicableKind}
 use Rattle.combining.specs.Ways.{notApplicable}
-use Rattle.table.specs.Layout.{Bytes, maximum, maxima, count, kind, card}
+use Rattle.table.specs.Layout.{Bytes, maximum, maxima, count, kind, card, low, high}
+use Rattle.table.specs.Ranges.{rangesWord, lowOf, highOf}
 use Rattle.table.specs.Tree.{isRule, Above}
 use Rattle.table.specs.Reading.{tableRefusals, reading, Accepted}
 use Rattle.ruling.specs.Forest.{under, childrenOf, trees}
-use Rattle.ruling.specs.Targets.{targetHolds, applies}
+use Rattle.ruling.specs.Targets.{targetHolds, targetHoldsFrom, applies}
 use Rattle.ruling.specs.Closed.{Closed}
 use Rattle.ruling.specs.Subjects.{mostSubjects, member, appliesToSome, size, AskedWithin}
 use Rattle.ruling.specs.Meaning.{gives, childOf, decision, matches, matching}
@@ -150,6 +151,12 @@ pub record Demands : Type 0 where
   -- such a test is that of a set of subjects, and that of one
   pub sets-closed : (t : List ℕ) (s : ℕ) (others : List ℕ) → Accepted t → Closed t (appliesToSome t s others)
   pub one-closed : (t q : List ℕ) → Accepted t → Closed t (applies t q)
+  -- paper 4, "gather the six range bytes into one word": of 64 bits; "each of the six can be read back from the word, and [..] the test from it
+  -- passes exactly when the target holds"
+  pub ranges-fit : (t : List ℕ) (i : ℕ) → Bytes t → rangesWord t i < 2 ^ 64
+  pub ranges-read-back : (t : List ℕ) (i f : ℕ) → Bytes t → f < fields →
+      (lowOf (rangesWord t i) f ≡ low t i f) × (highOf (rangesWord t i) f ≡ high t i f)
+  pub target-from-word : (t q : List ℕ) (i : ℕ) → Bytes t → targetHoldsFrom (rangesWord t i) q ≡ targetHolds t q i
   -- Demand 3: "Through a diagram built here from any accepted table, in whatever room was lent, any question within the table's fields,
   -- asked with any list long enough for its cards, gets a ruling whose decision, count and list, number for number, are the ones the groups
   -- give to that question". "Any slice that starts with this used part is the same built diagram, whatever follows it". Paper 1: "diagrams

@@ -9,11 +9,12 @@ use borrow.Author.Tests.{le-leb, lt-leb}
 use lib.Dec.{leb}
 use Rattle.answer.specs.Fields.{fields}
 use Rattle.answer.specs.Requests.{value}
-use Rattle.table.specs.Layout.{low, high}
 use Rattle.answer.specs.Below.{everyBelow}
-use Rattle.ruling.specs.Targets.{inRange, fieldHolds, targetHolds}
-use Rattle.ruling.specs.Walk.{othersHold}
 use Rattle.answer.proofs.Below.{every-more, every-false, every-first}
+use Rattle.table.specs.Layout.{low, high}
+use Rattle.table.specs.Ranges.{lowOf, highOf}
+use Rattle.ruling.specs.Targets.{inRange, fieldHolds, targetHolds, fieldHoldsFrom}
+use Rattle.ruling.specs.Walk.{othersHold, othersHoldFrom}
 
 pub in-range-high : (low high v : ℕ) → low ≤ v → leb v high ≡ inRange low high v
 unfolding inRange
@@ -28,25 +29,25 @@ pub target-parts : (t others : List ℕ) (i k : ℕ) → targetHolds t (k ∷ ot
 unfolding targetHolds othersHold
 target-parts t others i k = every-first (fieldHolds t (k ∷ others) i) (fields - 1)
 
-module _ (t others : List ℕ) (i : ℕ) where
-  -- the value of a field after the first lies in node i's range
+module _ (w : ℕ) (others : List ℕ) where
+  -- the value of a field after the first lies in its range of the word
   abbrev pub otherHolds : ℕ → Bool
-  otherHolds f = fieldHolds t (0 ∷ others) i (suc f)
+  otherHolds f = fieldHoldsFrom w (0 ∷ others) (suc f)
 
   -- what the test of such a field tells
-  tested : (f l h : ℕ) (b : Bool) → l ≡ low t i (f + 1) → h ≡ high t i (f + 1) → b ≡ inRange l h (value others f) → otherHolds f ≡ b
+  tested : (f l h : ℕ) (b : Bool) → l ≡ lowOf w (f + 1) → h ≡ highOf w (f + 1) → b ≡ inRange l h (value others f) → otherHolds f ≡ b
   tested f l h b el eh e =
-      sym (e ∙ ap₂ (λ x y. inRange x y (value others f)) (el ∙ ap (low t i) (add-one f)) (eh ∙ ap (high t i) (add-one f)))
+      sym (e ∙ ap₂ (λ x y. inRange x y (value others f)) (el ∙ ap (lowOf w) (add-one f)) (eh ∙ ap (highOf w) (add-one f)))
 
-  pub others-fail : (f l h : ℕ) (b : Bool) → f < fields - 1 → l ≡ low t i (f + 1) → h ≡ high t i (f + 1) → b ≡ inRange l h (value others f) →
-      b ≡ false → false ≡ othersHold t others i
-  unfolding othersHold
+  pub others-fail : (f l h : ℕ) (b : Bool) → f < fields - 1 → l ≡ lowOf w (f + 1) → h ≡ highOf w (f + 1) → b ≡ inRange l h (value others f) →
+      b ≡ false → false ≡ othersHoldFrom w others
+  unfolding othersHoldFrom
   others-fail f l h b m el eh e n = sym (every-false otherHolds (fields - 1) f m (tested f l h b el eh e ∙ n))
 
-  pub others-next : (f l h : ℕ) (b : Bool) → l ≡ low t i (f + 1) → h ≡ high t i (f + 1) → b ≡ inRange l h (value others f) → b ≡ true →
+  pub others-next : (f l h : ℕ) (b : Bool) → l ≡ lowOf w (f + 1) → h ≡ highOf w (f + 1) → b ≡ inRange l h (value others f) → b ≡ true →
       everyBelow f otherHolds ≡ true → everyBelow (f + 1) otherHolds ≡ true
   others-next f l h b el eh e y r = every-more otherHolds f r (tested f l h b el eh e ∙ y)
 
-  pub others-all : (f : ℕ) → f ≡ fields - 1 → everyBelow f otherHolds ≡ true → true ≡ othersHold t others i
-  unfolding othersHold
+  pub others-all : (f : ℕ) → f ≡ fields - 1 → everyBelow f otherHolds ≡ true → true ≡ othersHoldFrom w others
+  unfolding othersHoldFrom
   others-all f e r = sym r ∙ ap (λ n. everyBelow n otherHolds) e

@@ -1,6 +1,7 @@
 -- What the proofs of several functions use, and the theorems about ruling.
 pub mod Forest
 pub mod FieldByField
+pub mod TargetFromWord
 pub mod SubjectsInRange
 pub mod Throughout
 pub mod Applies

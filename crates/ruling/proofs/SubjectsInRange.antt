@@ -73,15 +73,15 @@ module _ (t others : List ℕ) (i s : ℕ) (b : Bool) (e : b ≡ othersHold t ot
       ∙ and-false (member s k))
 
   -- where the other values lie in their ranges: those in the range of subjects
-  pub left-some : b ≡ true → s < 2 ^ 64 → (l h r : ℕ) → l ≡ low t i 0 → h ≡ high t i 0 → InRangeSet r l h →
+  pub left-some : b ≡ true → s < 2 ^ 64 → (r : ℕ) → InRangeSet r (low t i 0) (high t i 0) →
       (k : ℕ) → member (bitAnd s r) k ≡ member s k && targetHolds t (k ∷ others) i
-  left-some y fits l h r el eh is k =
+  left-some y fits r is k =
       bit-and s r k ∙ ⊎-elim within past (lt-or-ge k 64)
       ∙ ap (λ x. member s k && x)
       (sym (target-parts t others i k ∙ ap (λ x. inRange (low t i 0) (high t i 0) k && x) (sym e ∙ y) ∙ and-true (inRange (low t i 0) (high t i 0) k)))
     where
       within : k < 64 → (member s k && member r k) ≡ (member s k && inRange (low t i 0) (high t i 0) k)
-      within m = ap (λ x. member s k && x) (is k m ∙ ap₂ (λ x y. inRange x y k) el eh)
+      within m = ap (λ x. member s k && x) (is k m)
 
       past : 64 ≤ k → (member s k && member r k) ≡ (member s k && inRange (low t i 0) (high t i 0) k)
       past m = ap (λ x. x && member r k) (bit-past s k fits m) ∙ sym (ap (λ x. x && inRange (low t i 0) (high t i 0) k) (bit-past s k fits m))

@@ -8,6 +8,7 @@ use Rattle.answer.specs.Below.{everyBelow}
 use Rattle.answer.specs.Fields.{fields}
 use Rattle.answer.specs.Requests.{value}
 use Rattle.table.specs.Layout.{low, high}
+use Rattle.table.specs.Ranges.{lowOf, highOf}
 use Rattle.table.specs.Tree.{endOf}
 
 -- "low and high [..], both ends included": the value lies in the range
@@ -21,6 +22,14 @@ fieldHolds t q i f = inRange (low t i f) (high t i f) (value q f)
 -- "A node's target holds when all three values lie in its ranges."
 unfoldable pub targetHolds : List ℕ → List ℕ → ℕ → Bool
 targetHolds t q i = everyBelow fields (fieldHolds t q i)
+
+-- paper 4, "test from that": the value of field f lies in its range of the word w
+abbrev pub fieldHoldsFrom : ℕ → List ℕ → ℕ → Bool
+fieldHoldsFrom w q f = inRange (lowOf w f) (highOf w f) (value q f)
+
+-- "the test from it": all values lie in the ranges of the word w
+unfoldable pub targetHoldsFrom : ℕ → List ℕ → Bool
+targetHoldsFrom w q = everyBelow fields (fieldHoldsFrom w q)
 
 -- "its own target and every target above it hold": node j is node i or above it where it is no later and its span reaches over node i
 unfoldable pub applies : List ℕ → List ℕ → ℕ → Bool

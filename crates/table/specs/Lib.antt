@@ -1,4 +1,5 @@
 pub mod Layout
+pub mod Ranges
 pub mod Tree
 pub mod Reading
 pub mod WellFormed

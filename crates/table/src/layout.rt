@@ -5,6 +5,7 @@ ghost use Prim.Native.Nat.{_+_, _*_, _^_, _<_};
 ghost use lib.ListN.{length};
 ghost use Rattle.answer.specs.Fields.{fields};
 ghost use Rattle.table.specs.Layout.{word, maximum, maxima, count, header, start, recordByte, recordWord, kind, span, card, low, high, HeaderHeld, NodeHeld};
+ghost use Rattle.table.specs.Ranges.{rangesWord, rangeByte, lowOf, highOf, ReadsBack};
 
 // The header: bytes after the first two (2), version (1), a maximum for each field, number of nodes (2).
 pub const VERSION: usize = 2;
@@ -146,4 +147,45 @@ pub fn high_at(table: &[u8], i: usize, field: usize) -> u8
     ensures { λ r. ⌜ r ≡ high (now (table .entry)) i field ⌝ }
 {
     record_byte(table, i, RANGES + 2 * field + 1)
+}
+
+// Node i's range bytes gathered into one word, from which its target is tested: low and high of each field, in field order.
+pub fn ranges_at(table: &[u8], i: usize) -> u64
+    requires { ⌜ NodeHeld (now table) i ⌝ }
+    ensures { λ r. ⌜ r ≡ rangesWord (now (table .entry)) i ⌝ }
+    ensures { λ r. ⌜ ReadsBack r (now (table .entry)) i ⌝ }
+{
+    let mut word: u64 = 0;
+    let mut field = 0;
+    while field < FIELDS {
+        let low = low_at(table, i, field);
+        let high = high_at(table, i, field);
+        word = (word * 256 + low as u64) * 256 + high as u64;
+        field += 1;
+    }
+    word
+}
+
+// The byte at place k of such a word.
+fn range_byte(ranges: u64, k: usize) -> u8
+    requires { ⌜ k < 2 * fields ⌝ }
+    ensures { λ r. ⌜ r ≡ rangeByte ranges k ⌝ }
+{
+    ((ranges >> (8 * (2 * FIELDS - 1 - k))) % 256) as u8
+}
+
+// The low end of a field's range, read back from such a word.
+pub fn low_of(ranges: u64, field: usize) -> u8
+    requires { ⌜ field < fields ⌝ }
+    ensures { λ r. ⌜ r ≡ lowOf ranges field ⌝ }
+{
+    range_byte(ranges, 2 * field)
+}
+
+// The high end of a field's range, read back from such a word.
+pub fn high_of(ranges: u64, field: usize) -> u8
+    requires { ⌜ field < fields ⌝ }
+    ensures { λ r. ⌜ r ≡ highOf ranges field ⌝ }
+{
+    range_byte(ranges, 2 * field + 1)
 }

@@ -27,15 +27,9 @@ returns c =
 
 returns-2 : tie.Need-returns-2
 returns-2 c =
-    let high = c .before in
-    let low = high .before in
-    let h = low .before .before in
+    let h = c .before .before in
     left-some (table h) (others h) (start h .args .i) (start h .args .members) (h .others-hold .result) (h .others-hold .ensures)
-    (not-false _ (low .before .if1 .left)) (omega arith) (low .low-at .result) (high .high-at .result) (c .subjects-in .result)
-    (low .low-at .ensures) (high .high-at .ensures) (c .subjects-in .ensures)
+    (not-false _ (c .before .if1 .left)) (omega arith) (c .subjects-at .result) (c .subjects-at .ensures)
 
 pub members-left-spec : {M : Type 1} → statement M
-members-left-spec =
-    tie.close
-    (tie.spec
-    (λ c κs. search needs) returns (λ c κs. search needs) (λ c κs. search needs) (λ c κs. search needs) returns-2)
+members-left-spec = tie.close (tie.spec (λ c κs. search needs) returns (λ c κs. search needs) returns-2)
