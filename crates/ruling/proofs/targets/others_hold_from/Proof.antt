@@ -51,7 +51,7 @@ returns : tie.Need-returns Inv-loop μ-loop
 returns c =
     let r = c .before in
     let l = at-loop r in
-    others-fail (ranges l) (others l) (field l) (low r .low-of .result) (high r .high-of .result) (r .in-range .result) (in-loop r .loop-test .taken)
+    others-fail (ranges l) (others l) (field l) (low r .low-of .result) (high r .high-of .result) (r .in-range .result) (omega (arith, in-loop r .loop-test .taken))
     (low r .low-of .ensures) (high r .high-of .ensures) (r .in-range .ensures) (not-true _ (c .if1 .taken))
 
 loop-again : tie.Need-loop-again Inv-loop μ-loop
