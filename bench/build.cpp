@@ -11,10 +11,6 @@
 
 namespace {
 
-const Sizes SMALL = {8, 8, 8};
-const Sizes MIDDLE = {64, 32, 16};
-const Sizes LARGE = {256, 256, 256};
-
 // A table, and how many times as fast as ruling on every request its build is to be; 0 where nothing is asked.
 struct Case {
     Table table;

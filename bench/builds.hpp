@@ -6,6 +6,10 @@
 
 #include "common.hpp"
 
+const Sizes SMALL = {8, 8, 8};
+const Sizes MIDDLE = {64, 32, 16};
+const Sizes LARGE = {256, 256, 256};
+
 // The places used, 0 where the diagram does not fit, and what each builder took, in microseconds.
 struct Built {
     size_t places;

@@ -48,18 +48,9 @@ void rule_section() {
                 "| Table | Fields | Nodes | Subjects | Cards on average | `kolfsein_rule`, ns | Plain C++, ns | "
                 "Ratio | Target |\n"
                 "|---|---|--:|--:|--:|--:|--:|--:|---|\n");
-    const Sizes sizes = {64, 32, 16};
-    const std::vector<Table> all = {
-        example("harbour"),
-        any_ranges(5, sizes),
-        any_ranges(30, sizes),
-        example("rulebook"),
-        part_ranges(128, sizes, 12),
-        flat(128, sizes),
-    };
     // ranges past the subjects that a set can have
     agreed_on_damaged(CALLS, any_ranges(30, {256, 32, 16}), change_byte);
-    for (const Table &table : all) {
+    for (const Table &table : ruled_tables()) {
         agreed_on_damaged(CALLS, table, change_byte);
         for (const Asked &asked : ASKED) {
             if (asked.subjects <= tables::most_subjects(table.bytes)) {

@@ -9,6 +9,19 @@
 
 #include "common.hpp"
 
+// The tables that rulings are timed on.
+inline std::vector<Table> ruled_tables() {
+    const Sizes sizes = {64, 32, 16};
+    return {
+        example("harbour"),
+        any_ranges(5, sizes),
+        any_ranges(30, sizes),
+        example("rulebook"),
+        part_ranges(128, sizes, 12),
+        flat(128, sizes),
+    };
+}
+
 // A joint request of which any subject and any value may be one over its maximum, and of no subject too.
 inline tables::JointRequest any_request(tables::Random &random, const Table &table) {
     const unsigned subjects = std::min(table.bytes[3] + 2u, 64u);

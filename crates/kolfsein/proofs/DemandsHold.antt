@@ -16,7 +16,7 @@ use Rattle.table.specs.Ranges.{rangesWord}
 use Rattle.table.specs.Reading.{tableRefusals, Accepted}
 use Rattle.table.proofs.Accepting.{accepted-reading}
 use Rattle.table.proofs.AcceptedIsWellFormed.{well-formed}
-use Rattle.table.proofs.Ranges.{ranges-fit, reads-back}
+use Rattle.table.proofs.RangesReadBack.{ranges-fit, reads-back}
 use Rattle.ruling.specs.Targets.{targetHolds, applies}
 use Rattle.ruling.specs.Subjects.{mostSubjects, appliesToSome, size, AskedWithin}
 use Rattle.ruling.specs.Ruling.{groups, groupsTogether, rulingRefusals, ruling, ruledList}

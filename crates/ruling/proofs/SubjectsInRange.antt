@@ -1,6 +1,6 @@
 -- Laws of the subjects in a range as a set, of those of a set that a target holds for, and of a set that is empty or has one over the maximum.
 -- Assumes nothing.
-use mathlib.Core.Path.{_≡_, refl, sym, ap, ap₂, _∙_}
+use mathlib.Core.Path.{_≡_, sym, ap, ap₂, _∙_}
 use mathlib.Core.Bool.{Bool, true, false, not, _&&_, _||_}
 use mathlib.Core.Logic.{⊎-elim}
 use mathlib.Core.List.{List, _∷_}
@@ -13,7 +13,7 @@ use lib.Count.{trailingZeros}
 use lib.Dec.{leb, ltb}
 use Rattle.answer.specs.Below.{someBelow}
 use Rattle.answer.proofs.Below.{some-where, some-none}
-use Rattle.answer.proofs.Tests.{lt-or-ge, and-true, and-false, and-after}
+use Rattle.answer.proofs.Tests.{lt-or-ge, and-true, and-false}
 use Rattle.sets.specs.Sets.{bit, Next}
 use Rattle.sets.proofs.WordPlaces.{bit-and, bit-zero, bit-none, bit-past, bit-all, bit-shifted, bit-left}
 use Rattle.sets.proofs.NextNumber.{next-within, next-some}

@@ -18,7 +18,7 @@ ghost use Rattle.ruling.specs.Walk.{othersHold, othersHoldFrom};
 const ALL: u64 = 18446744073709551615;
 
 // Whether a value lies in a range, both ends included.
-fn in_range(low: u8, high: u8, value: u16) -> bool
+pub fn in_range(low: u8, high: u8, value: u16) -> bool
     ensures { λ r. ⌜ r ≡ inRange low high value ⌝ }
 {
     if low as u16 <= value {
@@ -28,7 +28,7 @@ fn in_range(low: u8, high: u8, value: u16) -> bool
     }
 }
 
-// The same for a value that is a byte, as the values of accepted requests are: bytes are compared, and nothing is widened.
+// The same of a byte, as the values of a field are: bytes are compared, and nothing is widened.
 pub fn byte_in_range(low: u8, high: u8, value: u8) -> bool
     ensures { λ r. ⌜ r ≡ inRange low high value ⌝ }
 {

@@ -10,4 +10,4 @@ pub mod Pass
 pub mod AcceptedIsWellFormed
 pub mod ParentsAndSpansAgree
 pub mod Maxima
-pub mod Ranges
+pub mod RangesReadBack

@@ -8,7 +8,7 @@ use borrow.Author.Needs.{needs}
 use Rattle.answer.specs.Fields.{fields}
 use Rattle.table.specs.Layout.{Bytes}
 use Rattle.table.specs.Ranges.{ReadsBack}
-use Rattle.table.proofs.Ranges.{reads-back, RangesGathered, none-gathered, room-for-two, one-more, all-gathered}
+use Rattle.table.proofs.RangesReadBack.{reads-back, RangesGathered, none-gathered, room-for-two, one-more, all-gathered}
 use Rattle.table.proofs.layout.ranges_at.Statement.{statement}
 use Rattle.table.proofs.layout.ranges_at.Tie as tie
 
