@@ -151,8 +151,8 @@ pub record Demands : Type 0 where
   -- such a test is that of a set of subjects, and that of one
   pub sets-closed : (t : List ℕ) (s : ℕ) (others : List ℕ) → Accepted t → Closed t (appliesToSome t s others)
   pub one-closed : (t q : List ℕ) → Accepted t → Closed t (applies t q)
-  -- paper 4, "gather the six range bytes into one word": of 64 bits; "each of the six can be read back from the word, and [..] the test from it
-  -- passes exactly when the target holds"
+  -- paper 4, "gather the six range bytes into one word": of 64 bits; "each of the six can be read back from the word, and that the test from
+  -- it passes exactly when the target holds"
   pub ranges-fit : (t : List ℕ) (i : ℕ) → Bytes t → rangesWord t i < 2 ^ 64
   pub ranges-read-back : (t : List ℕ) (i f : ℕ) → Bytes t → f < fields →
       (lowOf (rangesWord t i) f ≡ low t i f) × (highOf (rangesWord t i) f ≡ high t i f)
