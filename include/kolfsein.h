@@ -33,7 +33,10 @@
 extern "C" {
 #endif
 
-/* kolfsein_answer.decision */
+/*
+ * kolfsein_answer.decision. KOLFSEIN_INDETERMINATE is never given by a table whose root is of kind 3, deny overrides, nor
+ * by a diagram built from one.
+ */
 enum {
     KOLFSEIN_NOT_APPLICABLE = 0,
     KOLFSEIN_PERMIT = 1,

@@ -52,7 +52,8 @@ pub enum Decision {
     Permit = 1,
     /// It may not be done.
     Deny = 2,
-    /// It is left unclear, by rules that match or by groups in which none does.
+    /// It is left unclear, by rules that match or by groups in which none does. Never given by a table whose root is of
+    /// kind 3, deny overrides, nor by a diagram built from one.
     Indeterminate = 3,
 }
 

@@ -1,10 +1,11 @@
 //! Ruling by a table's groups.
 
 use crate::compare::Compare;
-use crate::evaluator::{self, Joint, Ruled, Table, HEADER, MOST_SUBJECTS, OTHERS};
+use crate::evaluator::{self, every_request, Joint, Refused, Ruled, Table};
+use crate::evaluator::{HEADER, MOST_SUBJECTS, OTHERS};
 use crate::generator::{accepted_table, any_maxima, children, damaged_table, flat};
 use crate::generator::{joint_requests_of, lists, ranges_of, sets_of, some_joint_requests};
-use crate::generator::{silent_groups, two_ranges, Random, CHILDREN, HARBOUR};
+use crate::generator::{silent_groups, small_maxima, two_ranges, Random, CHILDREN, HARBOUR};
 use crate::pairs::builds;
 
 #[test]
@@ -149,4 +150,44 @@ fn silent_groups_count() {
     }
     compare.silent_groups(150);
     compare.end(25_000, [0, 10, 13], 30);
+}
+
+fn is_unclear(ruled: &Result<Ruled, Refused>) -> bool {
+    matches!(ruled, Ok(Ruled { decision: 3, .. }))
+}
+
+/// "Show that such a group never gives unclear, for questions and parties alike": a root that is "may not beats", by the
+/// groups and by the diagram. That it would be under another root is seen by one that is "may beats".
+#[test]
+fn deny_overrides_never_indeterminate() {
+    let mut compare = Compare::new("deny overrides as the root");
+    let mut unclear = 0;
+    for seed in 0..1_200 {
+        compare.case("seed", seed);
+        let mut random = Random::new(seed);
+        let maxima = small_maxima(&mut random);
+        let mut bytes = accepted_table(&mut random, maxima).bytes();
+        bytes[HEADER] = 2;
+        let Ok(permitting) = Table::read(&bytes) else {
+            continue;
+        };
+        bytes[HEADER] = 3;
+        let Some((denying, diagram)) = builds(&mut compare, &bytes) else {
+            continue;
+        };
+        for values in every_request(denying.maxima) {
+            let ruled = denying.rule_one(values);
+            compare.looks_up_with(&diagram, values, &ruled, [127]);
+            compare.same("whether it is unclear", is_unclear(&ruled), false);
+            unclear += u32::from(is_unclear(&permitting.rule_one(values)));
+        }
+        for joint in some_joint_requests(&mut random, maxima, &[], 40) {
+            let ruled = denying.rule(&joint);
+            compare.rules_with(&bytes, &joint, &ruled, [127]);
+            compare.same("whether it is unclear", is_unclear(&ruled), false);
+            unclear += u32::from(is_unclear(&permitting.rule(&joint)));
+        }
+    }
+    assert!(unclear >= 5_000, "unclear {unclear} times under may beats");
+    compare.end(5_000_000, [0, 9, 11, 13], 50);
 }

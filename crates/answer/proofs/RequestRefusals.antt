@@ -6,7 +6,6 @@ use mathlib.Core.List.{List, [], _∷_, _++_}
 use Prim.Native.Nat.{ℕ, _-_, _≤_, _<_}
 use native.Mathlib.Omega.{arith}
 use borrow.Author.Tests.{lt-ltb, le-ltb, ltb-false}
-use lib.Dec.{lit<}
 use lib.ListN.{length}
 use Rattle.answer.specs.Fields.{fields}
 use Rattle.answer.specs.Answers.{refused, ruled, zeros, padded}
@@ -16,6 +15,11 @@ use Rattle.answer.specs.Rulings.{Ruling, valueRefusals, listRefusal, req
 use Rattle.answer.specs.declared.Answer.{Answer}
 use Rattle.answer.proofs.Settling.{all-join, all-parts, all-upward, upward-all, first-in, first-after, first-upward, settled-so, refuses, succeeds, answers}
 use Rattle.answer.proofs.FirstField.{none-over, first-over}
+
+-- what is so of 0, the decision of a refusal, and of a ruling's where none applies, is so of the decision that is answered
+pub ruled-so : (P : ℕ → Type 0) → P 0 → (refusals : List Refusal) (r : Ruling) (subjects : ℕ) → (None refusals → P (r .decision)) →
+    P (ruledOr refusals r subjects .decision)
+ruled-so P zero refusals r subjects = settled-so refused (answerOf r subjects) (λ a. P (a .decision)) refusals (λ number place. zero)
 
 module _ (maximum : ℕ → ℕ) (q : List ℕ) (from : ℕ) (start : from ≤ fields) where
   abbrev rows : ℕ → List Refusal
@@ -104,11 +108,11 @@ module _ (before : List Refusal) (maximum : ℕ → ℕ) (q : List ℕ) (from : 
       answers refused (zeros n) (answerOf r subjects) (padded (r .cards) n) asked .succeeds
       (all-join (λ x. x .when ≡ false) before (requestRefusals maximum q from r n) none (within-none maximum q from start r n w l))
 
-  -- the decision is one of the four where that of every request within the maxima is
-  pub asked-below : (None before → WithinFrom maximum q from → r .decision < 4) →
-      ruledOr (before ++ requestRefusals maximum q from r n) r subjects .decision < 4
-  asked-below h =
-      settled-so refused (answerOf r subjects) (λ a. a .decision < 4) asked (λ m p. lit< tt)
+  -- what is so of 0, and of the decision where the request is within the maxima, is so of the decision that is answered
+  pub asked-so : (P : ℕ → Type 0) → P 0 → (None before → WithinFrom maximum q from → P (r .decision)) →
+      P (ruledOr (before ++ requestRefusals maximum q from r n) r subjects .decision)
+  asked-so P zero h =
+      ruled-so P zero asked r subjects
       (λ none.
       let p = all-parts (λ x. x .when ≡ false) before (requestRefusals maximum q from r n) none in
       h (p .0) (none-within maximum q from start r n (p .1) .0))

@@ -61,7 +61,7 @@ pub data OneOfFour : List Child → Type 0 where
 
 -- a step ends at a decision
 pub step-below : (k : ℕ) (r c : Child) → k < 4 → r .decision < 4 → c .decision < 4 → step k r c .decision < 4
-step-below k r c hk hr hc = ltb→lt (step k r c .decision) 4 (passes (λ k r c. ltb (step k r c .decision) 4) tt k r c hk hr hc)
+step-below k r c hk hr hc = ltb→lt (step k r c .decision) 4 (passes (λ _. 4) (λ k r c. ltb (step k r c .decision) 4) tt k r c hk hr hc)
 
 -- from a running decision that its way keeps: the way of the list with it in front
 from : (k : ℕ) (r : Child) {cs : List Child} → k < 4 → r .decision < 4 → way k (r ∷ []) ≡ r .decision → OneOfFour cs →

@@ -1,14 +1,17 @@
--- The combining table against the four ways: one computed test over all kinds of groups, running decisions and children gives the rule at each entry.
+-- The combining table against the four ways: one computed test over all kinds of groups, running decisions and children, which covers exactly the
+-- rows of the table, gives the rule at each entry.
 -- Assumes nothing.
-use mathlib.Core.Path.{_≡_}
-use mathlib.Core.Bool.{Bool, true, false, not, _&&_, _||_}
-use mathlib.Core.List.{List, [], _∷_}
+use mathlib.Core.Path.{_≡_, refl, sym, subst}
+use mathlib.Core.Bool.{Bool, true, false, cond, not, _&&_}
+use mathlib.Core.List.{List}
+use mathlib.Core.Logic.{⊎-elim}
 use Prim.Native.Nat.{ℕ, zero, suc, _<_}
-use native.Mathlib.Nat.{le-of-suc-le-suc, not-suc-le-zero}
-use lib.Dec.{T, eqb, eqb→eq, eqb-refl}
-use Rattle.combining.specs.Ways.{Child, asChild, way, step}
+use native.Mathlib.Nat.{le-of-suc-le-suc, not-suc-le-zero, eq-or-lt-of-le}
+use lib.Dec.{T, eqb, eqb→eq, ltb, ltb→lt, lit<}
+use Rattle.combining.specs.Kinds.{denyOverridesKind}
+use Rattle.combining.specs.Ways.{notApplicable, indeterminate, Child, asChild, step, NeverIndeterminate}
 use Rattle.combining.specs.Running.{soFar, Takes}
-use Rattle.combining.specs.Table.{entry, Combines}
+use Rattle.combining.specs.Table.{rowOf, entry, Combines}
 use Rattle.combining.specs.declared.Running.{Running}
 
 -- the test f passes at each number below n
@@ -29,43 +32,63 @@ at zero f t i h = absurd (not-suc-le-zero h)
 at (suc n) f t zero h = left (f 0) (below n (λ i. f (suc i))) t
 at (suc n) f t (suc i) h = at n (λ i. f (suc i)) (right (f 0) (below n (λ i. f (suc i))) t) i (le-of-suc-le-suc h)
 
--- the test f passes at each child of one of the four decisions, which counts or not
-abbrev pub eachChild : (Child → Bool) → Bool
-eachChild f = below 4 (λ d. f (asChild d true) && f (asChild d false))
+-- the test f passes at each child of one of the first n decisions, which counts or not
+abbrev pub eachChild : ℕ → (Child → Bool) → Bool
+eachChild n f = below n (λ d. f (asChild d true) && f (asChild d false))
 
-at-child : (f : Child → Bool) → T (eachChild f) → (d : ℕ) (counts : Bool) → d < 4 → T (f (asChild d counts))
-at-child f t d true h = left (f (asChild d true)) (f (asChild d false)) (at 4 (λ d. f (asChild d true) && f (asChild d false)) t d h)
-at-child f t d false h = right (f (asChild d true)) (f (asChild d false)) (at 4 (λ d. f (asChild d true) && f (asChild d false)) t d h)
+at-child : (n : ℕ) (f : Child → Bool) → T (eachChild n f) → (d : ℕ) (counts : Bool) → d < n → T (f (asChild d counts))
+at-child n f t d true h = left (f (asChild d true)) (f (asChild d false)) (at n (λ d. f (asChild d true) && f (asChild d false)) t d h)
+at-child n f t d false h = right (f (asChild d true)) (f (asChild d false)) (at n (λ d. f (asChild d true) && f (asChild d false)) t d h)
 
--- the test f passes at each kind of group, running decision and child
-abbrev pub everywhere : (ℕ → Child → Child → Bool) → Bool
-everywhere f = below 4 (λ k. eachChild (λ r. eachChild (f k r)))
+-- the test f passes at each kind k of group, each of its first `runnings k` running decisions, and each child
+abbrev pub everywhere : (ℕ → ℕ) → (ℕ → Child → Child → Bool) → Bool
+everywhere runnings f = below 4 (λ k. eachChild (runnings k) (λ r. eachChild 4 (f k r)))
 
-pub passes : (f : ℕ → Child → Child → Bool) → T (everywhere f) → (k : ℕ) (r c : Child) → k < 4 → r .decision < 4 → c .decision < 4 → T (f k r c)
-passes f ok k r c hk hr hc =
-    at-child (f k r) (at-child (λ r. eachChild (f k r)) (at 4 (λ k. eachChild (λ r. eachChild (f k r))) ok k hk) (r .decision) (r .counts) hr)
+pub passes : (runnings : ℕ → ℕ) (f : ℕ → Child → Child → Bool) → T (everywhere runnings f) →
+    (k : ℕ) (r c : Child) → k < 4 → r .decision < runnings k → c .decision < 4 → T (f k r c)
+passes runnings f ok k r c hk hr hc =
+    at-child 4 (f k r)
+    (at-child (runnings k) (λ r. eachChild 4 (f k r)) (at 4 (λ k. eachChild (runnings k) (λ r. eachChild 4 (f k r))) ok k hk) (r .decision) (r .counts) hr)
     (c .decision) (c .counts) hc
+
+-- how many running decisions a kind of group has, from not applicable on: under deny overrides those before indeterminate
+abbrev pub runningsOf : ℕ → ℕ
+runningsOf k = cond (eqb k denyOverridesKind) indeterminate 4
+
+pub running-below : (k d : ℕ) → d < 4 → NeverIndeterminate k d → d < runningsOf k
+running-below k d l h = by (eqb k denyOverridesKind) refl
+  where
+    by : (b : Bool) → eqb k denyOverridesKind ≡ b → d < cond b indeterminate 4
+    by true e =
+        ⊎-elim (λ (same : d ≡ indeterminate). absurd (h (eqb→eq k denyOverridesKind (subst T (sym e) tt)) same)) (λ (less : d < indeterminate). less)
+        (eq-or-lt-of-le (le-of-suc-le-suc l))
+    by false e = l
 
 -- a running decision of a kind of group
 abbrev pub running : ℕ → Child → Running
 running k r = record { kind = k; decision = r .decision; counted = r .counts }
 
--- the test of a table's entry, at a running decision that the way gives of it alone: it is the step of its place
-abbrev pub correct : List (List (List ℕ)) → ℕ → Child → Child → Bool
-correct t k r c = not (eqb (way k (r ∷ [])) (r .decision)) || eqb (entry t (running k r) c) (step k r c .decision)
+-- the test of a table's entry: it is the step of its place
+abbrev pub correct : List (List ℕ) → ℕ → Child → Child → Bool
+correct t k r c = eqb (entry t (running k r) c) (step k r c .decision)
 
--- where a test holds, and it fails or another one holds, the other one does
-other : (a b : Bool) → T a → T (not a || b) → T b
-other true b s t = t
-other false b s t = absurd s
+-- what is tested are rows of the table
+pub row-below : (k d : ℕ) (counted counts : Bool) → k < 4 → d < runningsOf k → rowOf k d counted counts < 27
+row-below k d counted counts hk hd =
+    ltb→lt (rowOf k d counted counts) 27
+    (passes runningsOf (λ k r c. ltb (rowOf k (r .decision) (r .counts) (c .counts)) 27) tt k (asChild d counted) (asChild notApplicable counts) hk hd (lit< tt))
 
-each : (t : List (List (List ℕ))) → T (everywhere (correct t)) → (r : Running) (c : Child) → Takes r c → entry t r c ≡ step (r .kind) (soFar r) c .decision
+-- and all of them: no row differs from each that is tested
+every-row : T (below 27 (λ i. not (everywhere runningsOf (λ k r c. not (eqb (rowOf k (r .decision) (r .counts) (c .counts)) i)))))
+every-row = tt
+
+each : (t : List (List ℕ)) → T (everywhere runningsOf (correct t)) → (r : Running) (c : Child) → Takes r c →
+    entry t r c ≡ step (r .kind) (soFar r) c .decision
 each t ok r c h =
-    let k = r .kind in
-    let e = step k (soFar r) c .decision in
-    eqb→eq (entry t r c) e
-    (other (eqb (way k (soFar r ∷ [])) (r .decision)) (eqb (entry t r c) e) (rw (h .reachable .alone) (eqb-refl (r .decision)))
-    (passes (correct t) ok k (soFar r) c (h .reachable .group) (h .reachable .one-of-four) (h .one-of-four)))
+    let s = h .reachable in
+    eqb→eq (entry t r c) (step (r .kind) (soFar r) c .decision)
+    (passes runningsOf (correct t) ok (r .kind) (soFar r) c (s .group) (running-below (r .kind) (r .decision) (s .one-of-four) (s .never-indeterminate))
+    (h .one-of-four))
 
-pub combines : (t : List (List (List ℕ))) → T (everywhere (correct t)) → Combines t
+pub combines : (t : List (List ℕ)) → T (everywhere runningsOf (correct t)) → Combines t
 combines t ok = record { each = each t ok }

@@ -3,17 +3,18 @@
 use mathlib.Core.Path.{_≡_}
 use mathlib.Core.List.{[], _∷_}
 use Prim.Native.Nat.{ℕ, _<_}
-use Rattle.combining.specs.Ways.{Child, asChild, absent, way, step}
+use Rattle.combining.specs.Ways.{Child, asChild, absent, way, step, NeverIndeterminate}
 use Rattle.combining.specs.declared.Running.{Running}
 
 -- "Beside the running decision a group now keeps whether a child has counted": the two, beside the child that is taken in
 abbrev pub soFar : Running → Child
 soFar r = asChild (r .decision) (r .counted)
 
--- A running decision that a group can have: one of the four, and what the group's way gives of it alone.
+-- A running decision that a group can have: one of the four, never indeterminate under deny overrides, and what the group's way gives of it alone.
 pub record Reachable (r : Running) : Type 0 where
   pub group : r .kind < 4
   pub one-of-four : r .decision < 4
+  pub never-indeterminate : NeverIndeterminate (r .kind) (r .decision)
   pub alone : way (r .kind) (soFar r ∷ []) ≡ r .decision
 
 -- "A running decision starts at none", and no child has counted: that of a group of a kind

@@ -2,10 +2,11 @@
 -- Assumes nothing: these are definitions.
 use mathlib.Core.Bool.{Bool, false, cond, _||_}
 use mathlib.Core.List.{List, [], _∷_}
+use mathlib.Core.Path.{_≡_}
 use Prim.Native.Nat.{ℕ}
 use lib.Dec.{eqb}
 use lib.ListN.{getD}
-use Rattle.combining.specs.Kinds.{firstApplicableKind, onlyOneApplicableKind, permitOverridesKind}
+use Rattle.combining.specs.Kinds.{firstApplicableKind, onlyOneApplicableKind, permitOverridesKind, denyOverridesKind}
 
 -- "The four decisions are 0 none, [..] (NotApplicable, [..])"
 abbrev pub notApplicable : ℕ
@@ -102,3 +103,8 @@ step k r c = asChild (way k (r ∷ c ∷ [])) (r .counts || c .counts)
 abbrev pub taken : ℕ → Child → List Child → Child
 taken k r [] = r
 taken k r (c ∷ cs) = taken k (step k r c) cs
+
+-- paper 5, of a "may not beats" group, "such a group never gives unclear, [..] its running decision never is unclear": a decision d of a group of
+-- kind k
+abbrev pub NeverIndeterminate : ℕ → ℕ → Type 0
+NeverIndeterminate k d = k ≡ denyOverridesKind → d ≡ indeterminate → ⊥

@@ -1,9 +1,9 @@
 // Decisions, kinds of nodes, and how a group combines its children's decisions.
 ghost use mathlib.Core.Path.{_≡_};
 ghost use Prim.Native.Nat.{_<_};
-ghost use Rattle.combining.specs.Ways.{asChild};
+ghost use Rattle.combining.specs.Ways.{asChild, NeverIndeterminate};
 ghost use Rattle.combining.specs.Running.{Started, Takes, Taken};
-ghost use Rattle.combining.specs.Table.{onlyOneBlock, blockOf, Combines};
+ghost use Rattle.combining.specs.Table.{onlyOneFurther, rowOf, Combines};
 
 // The four decisions, by number.
 pub struct Decision {
@@ -58,50 +58,70 @@ const D: u8 = Decision::DENY;
 
 const I: u8 = Decision::INDETERMINATE;
 
-// A table of the ways of combining, by block, running decision and child decision: a block for each kind of group, and three more for only
-// one applicable.
-pub type Ways = [[[u8; 4]; 4]; 7];
+// A table of the ways of combining, one row after another, each by child decision. Which row is which, `row_of` says.
+pub type Ways = [[u8; 4]; 27];
 
-// The four ways. Under only one applicable a child that does not count leaves the running decision, the first that counts gives its own, and
-// any further one is too many.
+// The four ways. Under only one applicable the first child that counts gives the decision, any further one is too many, and one that does not
+// count changes nothing. Deny overrides has no row for a running indeterminate, which it never has.
 const COMBINING: Ways = [
     // first applicable
-    [[N, P, D, I], [P, P, P, P], [D, D, D, D], [I, I, I, I]],
+    [N, P, D, I], // 0: running N
+    [P, P, P, P], // 1: running P
+    [D, D, D, D], // 2: running D
+    [I, I, I, I], // 3: running I
     // only one applicable: no child has counted before, and this one does not
-    [[N, N, N, N], [P, P, P, P], [D, D, D, D], [I, I, I, I]],
+    [N, N, N, N], // 4: running N
+    [N, N, N, N], // 5: running P
+    [N, N, N, N], // 6: running D
+    [N, N, N, N], // 7: running I
     // permit overrides
-    [[N, P, D, I], [P, P, P, P], [D, P, D, D], [I, P, D, I]],
+    [N, P, D, I], // 8: running N
+    [P, P, P, P], // 9: running P
+    [D, P, D, D], // 10: running D
+    [I, P, D, I], // 11: running I
     // deny overrides
-    [[N, P, D, D], [P, P, D, D], [D, D, D, D], [D, D, D, D]],
+    [N, P, D, D], // 12: running N
+    [P, P, D, D], // 13: running P
+    [D, D, D, D], // 14: running D
     // only one applicable: no child has counted before, and this one does
-    [[N, P, D, I], [N, P, D, I], [N, P, D, I], [N, P, D, I]],
+    [N, P, D, I], // 15: running N
+    [N, P, D, I], // 16: running P
+    [N, P, D, I], // 17: running D
+    [N, P, D, I], // 18: running I
     // only one applicable: a child has counted before, and this one does not
-    [[N, N, N, N], [P, P, P, P], [D, D, D, D], [I, I, I, I]],
+    [N, N, N, N], // 19: running N
+    [P, P, P, P], // 20: running P
+    [D, D, D, D], // 21: running D
+    [I, I, I, I], // 22: running I
     // only one applicable: a child has counted before, and this one does
-    [[I, I, I, I], [I, I, I, I], [I, I, I, I], [I, I, I, I]],
+    [I, I, I, I], // 23: running N
+    [I, I, I, I], // 24: running P
+    [I, I, I, I], // 25: running D
+    [I, I, I, I], // 26: running I
 ];
 
-// Which of only one applicable's blocks: by whether a child has counted before, and by whether this one counts.
-fn only_one_block(counted: bool, counts: bool) -> usize
-    ensures { λ r. ⌜ (r ≡ onlyOneBlock counted counts) × (r < 7) ⌝ }
+// How many rows further on those of only one applicable are, where a child has counted before or not, and this one counts or not.
+fn further(counted: bool, counts: bool) -> usize
+    ensures { λ r. ⌜ (r ≡ onlyOneFurther counted counts) × (r < 20) ⌝ }
 {
     if counted {
-        if counts { 6 } else { 5 }
+        if counts { 19 } else { 15 }
     } else {
-        if counts { 4 } else { 1 }
+        if counts { 11 } else { 0 }
     }
 }
 
-// Which block of the table a kind of group goes by.
-fn block_of(kind: u8, counted: bool, counts: bool) -> usize
-    requires { ⌜ kind < 4 ⌝ }
-    ensures { λ r. ⌜ (r ≡ blockOf kind counted counts) × (r < 7) ⌝ }
+// Which row of the table a group goes by: by its kind, its running decision, whether a child has counted, and whether this one counts.
+fn row_of(kind: u8, running: u8, counted: bool, counts: bool) -> usize
+    requires { ⌜ (kind < 4) × (running < 4) ⌝ }
+    requires { ⌜ NeverIndeterminate kind running ⌝ }
+    ensures { λ r. ⌜ (r ≡ rowOf kind running counted counts) × (r < 27) ⌝ }
 {
-    match kind {
-        Kind::FIRST_APPLICABLE => 0,
-        Kind::ONLY_ONE_APPLICABLE => only_one_block(counted, counts),
-        Kind::PERMIT_OVERRIDES => 2,
-        _ => 3,
+    let row = 4 * kind as usize + running as usize;
+    if kind == Kind::ONLY_ONE_APPLICABLE {
+        row + further(counted, counts)
+    } else {
+        row
     }
 }
 
@@ -137,10 +157,10 @@ impl Running {
         requires { ⌜ Combines (now ways) × Takes self (asChild decision counts) ⌝ }
         ensures { λ r. ⌜ Taken self (asChild decision counts) r ⌝ }
     {
-        let block = block_of(self.kind, self.counted, counts);
+        let row = row_of(self.kind, self.decision, self.counted, counts);
         Self {
             kind: self.kind,
-            decision: ways[block][self.decision as usize][decision as usize],
+            decision: ways[row][decision as usize],
             counted: self.counted | counts,
         }
     }

@@ -5,6 +5,7 @@ use mathlib.Core.Bool.{true, false, not}
 use mathlib.Core.List.{List, [], _∷_}
 use Prim.Native.Nat.{ℕ, _+_, _≤_, _<_}
 use native.Mathlib.Omega.{arith}
+use lib.Dec.{lit<}
 use lib.ListN.{length, take, drop}
 use lib.Seq.{getD-take, getD-drop}
 use Rattle.answer.specs.Fields.{fields}
@@ -15,7 +16,7 @@ use Rattle.answer.specs.Rulings.{answerOf}
 use Rattle.answer.specs.declared.Answer.{Answer}
 use Rattle.answer.proofs.FirstField.{fault-alike}
 use Rattle.answer.proofs.Settling.{settled-later}
-use Rattle.answer.proofs.RequestRefusals.{within-ruled, asked-below}
+use Rattle.answer.proofs.RequestRefusals.{within-ruled, asked-so}
 use Rattle.diagram.specs.Layout.{maximum, decisionAt, countAt}
 use Rattle.diagram.specs.LookUp.{ruledBy}
 use Rattle.diagram.specs.Sound.{Sound}
@@ -72,5 +73,5 @@ module _ (d : List ℕ) where
     -- the decision is one of the four, for every slice and every request of as many values as there are fields
     pub one-of-four : (n : ℕ) → length q ≡ fields → lookedUp d q n .decision < 4
     one-of-four n e =
-        asked-below (diagramRefusal d ∷ []) (maximum d) q 0 (omega arith) (ruledBy d q) 0 n
+        asked-so (diagramRefusal d ∷ []) (maximum d) q 0 (omega arith) (ruledBy d q) 0 n (λ m. m < 4) (lit< tt)
         (λ none w. omega (arith, ruling-holdable d q (none-sound none) (λ f l. w f (omega arith) l) e .one-of-four))

@@ -27,6 +27,7 @@ use Rattle.ruling.proofs.AppliesByParents.{applies-by-parents}
 use Rattle.ruling.proofs.SubjectsByParents.{applies-to-some-by-parents}
 use Rattle.ruling.proofs.ChildrenByParents.{children-by-parents}
 use Rattle.ruling.proofs.DecisionByChildren.{decision-by-children}
+use Rattle.ruling.proofs.NeverIndeterminate.{decision-clear, running-clear, running-ends, ruling-clear}
 use Rattle.ruling.proofs.CardsOfMatchingRules.{each-listed, number-of-cards}
 use Rattle.ruling.proofs.TargetFromWord.{target-from}
 use Rattle.ruling.proofs.OneSubject.{size-one, one-subject, one-asked}
@@ -46,7 +47,7 @@ use Rattle.diagram.proofs.Deciding.{refuted, sound-is}
 use Rattle.diagram.proofs.DiagramHeader.{diagram-used}
 use Rattle.building.specs.Built.{diagramOf, roomRefusal, buildRefusals, built, builtDiagram}
 use Rattle.building.proofs.BuildAnswers.{none-fits, succeeds-exactly, accepted-built, used-part}
-use Rattle.building.proofs.BuiltAnswersAsGroups.{built-answers}
+use Rattle.building.proofs.BuiltAnswersAsGroups.{built-answers, built-clear}
 use Rattle.building.proofs.EqualExactlyWhenTablesAlike.{equal-exactly-when-tables-alike}
 use Rattle.kolfsein.specs.Demands.{WithinFields, LongEnough, Rules, Builds, usedPart, RuleAlike, nothing, Demands}
 
@@ -166,6 +167,14 @@ demands-hold =
       ranges-fit = ranges-fit;
       ranges-read-back = λ t i f b. reads-back t i b f;
       target-from-word = λ t q i b. target-from t i (rangesWord t i) (reads-back t i b) q;
+      never-unclear = λ t a. decision-clear a t;
+      running-never-unclear = λ t a. running-clear a t;
+      running-ends = λ t a i h g. running-ends a t i h (leb-false 4 (kind t i) g);
+      ruling-never-unclear =
+          λ t e s others n. (ruling-clear (rulingRefusals t s others n) t s others e, ruling-clear (rulingStandardRefusals t s others n) t s others e);
+      diagram-never-unclear =
+          λ t e room b following q n l h.
+          built-clear t following q n l e (sym (ap (λ d. lookedUp (d ++ following) q n .decision) (walked t room b)) ∙ h);
       diagram-rules = through;
       equal-exactly = equal;
       decision-worded = λ t q c. sym (decision-as-worded t q c 0 (well-formed t c .some) (pass-root t (targetHolds t q)));

@@ -13,8 +13,8 @@ use Rattle.answer.specs.Refusals.{None, Answers}
 use Rattle.answer.specs.Order.{IsRequest}
 use Rattle.answer.specs.Rulings.{Ruling, answerOf}
 use Rattle.answer.specs.declared.Answer.{Answer}
-use Rattle.combining.specs.Kinds.{onlyOneApplicableKind}
-use Rattle.combining.specs.Ways.{notApplicable}
+use Rattle.combining.specs.Kinds.{onlyOneApplicableKind, denyOverridesKind}
+use Rattle.combining.specs.Ways.{notApplicable, indeterminate}
 use Rattle.table.specs.Layout.{Bytes, maximum, maxima, count, kind, card, low, high}
 use Rattle.table.specs.Ranges.{rangesWord, lowOf, highOf}
 use Rattle.table.specs.Tree.{isRule, Above}
@@ -23,7 +23,7 @@ use Rattle.ruling.specs.Forest.{under, childrenOf, trees}
 use Rattle.ruling.specs.Targets.{targetHolds, targetHoldsFrom, applies}
 use Rattle.ruling.specs.Closed.{Closed}
 use Rattle.ruling.specs.Subjects.{mostSubjects, member, appliesToSome, size, AskedWithin}
-use Rattle.ruling.specs.Meaning.{gives, childOf, decision, matches, matching}
+use Rattle.ruling.specs.Meaning.{gives, childOf, children, decision, runningDecision, matches, matching}
 use Rattle.ruling.specs.AsWorded.{decisionAsWorded}
 use Rattle.ruling.specs.Ruling.{groups, groupsTogether, rulingRefusals, ruling, ruledList}
 use Rattle.standard.specs.Profile.{holdsRule, holdsGroup, standardRefusals, Standard, readingStandard}
@@ -157,6 +157,19 @@ pub record Demands : Type 0 where
   pub ranges-read-back : (t : List ℕ) (i f : ℕ) → Bytes t → f < fields →
       (lowOf (rangesWord t i) f ≡ low t i f) × (highOf (rangesWord t i) f ≡ high t i f)
   pub target-from-word : (t q : List ℕ) (i : ℕ) → Bytes t → targetHoldsFrom (rangesWord t i) q ≡ targetHolds t q i
+  -- paper 5, "Show that such a group never gives unclear, for questions and parties alike, and that its running decision never is unclear": a group
+  -- "may not beats", at any node, for any test of which nodes apply; the running decision with any number of its children taken in, which with all
+  -- of them is what the group gives
+  pub never-unclear : (t : List ℕ) (a : ℕ → Bool) (i : ℕ) → kind t i ≡ denyOverridesKind → decision a t i ≡ indeterminate → ⊥
+  pub running-never-unclear : (t : List ℕ) (a : ℕ → Bool) (i n : ℕ) → kind t i ≡ denyOverridesKind → runningDecision a t i n ≡ indeterminate → ⊥
+  pub running-ends : (t : List ℕ) (a : ℕ → Bool) (i : ℕ) → a i ≡ true → isRule t i ≡ false →
+      runningDecision a t i (length (children a t (under t i))) ≡ decision a t i
+  -- "rulebooks whose root is 'may not beats'": whatever is asked of such a table, by the profile or not, or of a diagram built from it, no answer is
+  -- unclear
+  pub ruling-never-unclear : (t : List ℕ) → kind t 0 ≡ denyOverridesKind → (s : ℕ) (others : List ℕ) (n : ℕ) →
+      (ruling t s others n .decision ≡ indeterminate → ⊥) × (rulingStandard t s others n .decision ≡ indeterminate → ⊥)
+  pub diagram-never-unclear : (t : List ℕ) → kind t 0 ≡ denyOverridesKind → (room : ℕ) → Builds t room → (following q : List ℕ) (n : ℕ) →
+      length q ≡ fields → lookedUp (usedPart t room ++ following) q n .decision ≡ indeterminate → ⊥
   -- Demand 3: "Through a diagram built here from any accepted table, in whatever room was lent, any question within the table's fields,
   -- asked with any list long enough for its cards, gets a ruling whose decision, count and list, number for number, are the ones the groups
   -- give to that question". "Any slice that starts with this used part is the same built diagram, whatever follows it". Paper 1: "diagrams

@@ -4,10 +4,8 @@ use mathlib.Core.Bool.{Bool}
 use mathlib.Core.List.{List}
 use Prim.Native.Nat.{ℕ, _<_}
 use lib.Dec.{lit<}
-use Rattle.answer.specs.Answers.{refused}
 use Rattle.answer.specs.Refusals.{Refusal}
-use Rattle.answer.specs.Rulings.{answerOf}
-use Rattle.answer.proofs.Settling.{settled-so}
+use Rattle.answer.proofs.RequestRefusals.{ruled-so}
 use Rattle.ruling.specs.Subjects.{appliesToSome, size}
 use Rattle.ruling.specs.Meaning.{meaning}
 use Rattle.ruling.specs.Ruling.{groupsTogether, ruledAfter}
@@ -19,5 +17,4 @@ meaning-below a t = decision-below a t 0
 -- whatever is refused
 pub ruling-below : (refusals : List Refusal) (t : List ℕ) (s : ℕ) (others : List ℕ) → ruledAfter refusals t s others .decision < 4
 ruling-below refusals t s others =
-    settled-so refused (answerOf (groupsTogether t s others) (size s)) (λ a. a .decision < 4) refusals (λ number place. lit< tt)
-    (λ none. meaning-below (appliesToSome t s others) t)
+    ruled-so (λ d. d < 4) (lit< tt) refusals (groupsTogether t s others) (size s) (λ none. meaning-below (appliesToSome t s others) t)

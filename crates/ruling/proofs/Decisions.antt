@@ -53,7 +53,7 @@ module _ (a : ℕ → Bool) (t : List ℕ) where
       (λ e. way-below (kind t i) cs (leb-false 4 (kind t i) e) h))
       (λ _. lit< tt)
 
-  children-below : (u : Forest) → OneOfFour (children a t u)
+  pub children-below : (u : Forest) → OneOfFour (children a t u)
   children-below empty = none
   children-below (node i u v) = more (gives-below i (children a t u) (children-below u)) (children-below v)
 

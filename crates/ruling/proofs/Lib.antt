@@ -23,6 +23,7 @@ pub mod OneSubject
 pub mod InTwoParts
 pub mod WithinTogether
 pub mod DecisionIsOneOfFour
+pub mod NeverIndeterminate
 pub mod AtMost127Cards
 pub mod NoCardIsZero
 pub mod DecisionAsWorded

@@ -6,10 +6,11 @@ use mathlib.Core.Bool.{Bool, cond, _&&_}
 use mathlib.Core.List.{List, [], _∷_}
 use Prim.Native.Nat.{ℕ, zero, suc, _+_}
 use lib.Dec.{eqb}
+use lib.ListN.{take}
 use Rattle.answer.specs.Below.{countBelow}
 use Rattle.answer.specs.Rulings.{Ruling}
 use Rattle.combining.specs.Kinds.{permitRuleKind}
-use Rattle.combining.specs.Ways.{notApplicable, permit, deny, Child, asChild, way}
+use Rattle.combining.specs.Ways.{notApplicable, permit, deny, Child, asChild, absent, way, taken}
 use Rattle.table.specs.Layout.{count, kind, card}
 use Rattle.table.specs.Tree.{isRule}
 use Rattle.ruling.specs.Forest.{Forest, empty, node, under}
@@ -36,6 +37,10 @@ children a t (node i below after) = childOf a i (gives a t i (children a t below
 -- the decision of node i
 abbrev pub decision : (ℕ → Bool) → List ℕ → ℕ → ℕ
 decision a t i = gives a t i (children a t (under t i))
+
+-- "A running decision starts at none and takes in one child after another": that of group i, with the first n of its children taken in
+abbrev pub runningDecision : (ℕ → Bool) → List ℕ → ℕ → ℕ → ℕ
+runningDecision a t i n = taken (kind t i) absent (take n (children a t (under t i))) .decision
 
 -- "A rule matches when its own target and every target above it hold."
 abbrev pub matches : (ℕ → Bool) → List ℕ → ℕ → Bool
