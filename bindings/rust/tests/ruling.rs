@@ -162,7 +162,7 @@ fn is_unclear(ruled: &Result<Ruled, Refused>) -> bool {
 fn deny_overrides_never_indeterminate() {
     let mut compare = Compare::new("deny overrides as the root");
     let mut unclear = 0;
-    for seed in 0..1_200 {
+    for seed in 0..3_000 {
         compare.case("seed", seed);
         let mut random = Random::new(seed);
         let maxima = small_maxima(&mut random);
@@ -188,6 +188,6 @@ fn deny_overrides_never_indeterminate() {
             unclear += u32::from(is_unclear(&permitting.rule(&joint)));
         }
     }
-    assert!(unclear >= 5_000, "unclear {unclear} times under may beats");
-    compare.end(5_000_000, [0, 9, 11, 13], 50);
+    assert!(unclear >= 6_000, "unclear {unclear} times under may beats");
+    compare.end(85_000_000, [0, 9, 13], 9_000);
 }

@@ -3,22 +3,30 @@
 use mathlib.Core.Path.{_≡_}
 use mathlib.Core.Bool.{Bool, cond}
 use mathlib.Core.List.{List, []}
-use Prim.Native.Nat.{ℕ, _+_, _*_}
+use Prim.Native.Nat.{ℕ, _+_}
 use lib.Dec.{eqb}
 use lib.ListN.{getD}
-use Rattle.combining.specs.Kinds.{onlyOneApplicableKind}
+use Rattle.combining.specs.Kinds.{firstApplicableKind, onlyOneApplicableKind, permitOverridesKind}
 use Rattle.combining.specs.Ways.{Child, step}
 use Rattle.combining.specs.Running.{soFar, Takes}
 use Rattle.combining.specs.declared.Running.{Running}
 
--- paper 2, "the constant table's rows for 'only one' go by that, and by whether the child taken in counts, as well": how many rows further on these
--- are where a child has counted before or not, and the child taken in counts or not
-abbrev pub onlyOneFurther : Bool → Bool → ℕ
-onlyOneFurther counted counts = cond counted (cond counts 19 15) (cond counts 11 0)
+-- paper 2, "the constant table's rows for 'only one' go by that, and by whether the child taken in counts, as well": the first of these rows where
+-- a child has counted before or not, and the child taken in counts or not
+abbrev pub onlyOneRow : Bool → Bool → ℕ
+onlyOneRow counted counts = cond counted (cond counts 12 16) (cond counts 4 8)
 
--- "indexed by group kind, running decision"; paper 5, "whose rows from then on are listed one after another": the row of these
+-- paper 5, "whose rows from then on are listed one after another": the first of the rows of a kind, first, only one, may beats, may not beats
+abbrev pub firstRow : ℕ → Bool → Bool → ℕ
+firstRow k counted counts =
+    cond (eqb k firstApplicableKind) 0
+    (cond (eqb k onlyOneApplicableKind) (onlyOneRow counted counts)
+    (cond (eqb k permitOverridesKind) 20
+    24))
+
+-- "indexed by group kind, running decision": the row of these, where a child has counted before or not, and the child taken in counts or not
 abbrev pub rowOf : ℕ → ℕ → Bool → Bool → ℕ
-rowOf k running counted counts = 4 * k + running + cond (eqb k onlyOneApplicableKind) (onlyOneFurther counted counts) 0
+rowOf k running counted counts = firstRow k counted counts + running
 
 -- "and child decision": the entry for a running decision and a child
 abbrev pub entry : List (List ℕ) → Running → Child → ℕ

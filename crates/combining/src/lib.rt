@@ -3,7 +3,7 @@ ghost use mathlib.Core.Path.{_≡_};
 ghost use Prim.Native.Nat.{_<_};
 ghost use Rattle.combining.specs.Ways.{asChild, NeverIndeterminate};
 ghost use Rattle.combining.specs.Running.{Started, Takes, Taken};
-ghost use Rattle.combining.specs.Table.{onlyOneFurther, rowOf, Combines};
+ghost use Rattle.combining.specs.Table.{onlyOneRow, firstRow, rowOf, Combines};
 
 // The four decisions, by number.
 pub struct Decision {
@@ -69,60 +69,68 @@ const COMBINING: Ways = [
     [P, P, P, P], // 1: running P
     [D, D, D, D], // 2: running D
     [I, I, I, I], // 3: running I
-    // only one applicable: no child has counted before, and this one does not
-    [N, N, N, N], // 4: running N
-    [N, N, N, N], // 5: running P
-    [N, N, N, N], // 6: running D
-    [N, N, N, N], // 7: running I
-    // permit overrides
-    [N, P, D, I], // 8: running N
-    [P, P, P, P], // 9: running P
-    [D, P, D, D], // 10: running D
-    [I, P, D, I], // 11: running I
-    // deny overrides
-    [N, P, D, D], // 12: running N
-    [P, P, D, D], // 13: running P
-    [D, D, D, D], // 14: running D
     // only one applicable: no child has counted before, and this one does
-    [N, P, D, I], // 15: running N
-    [N, P, D, I], // 16: running P
-    [N, P, D, I], // 17: running D
-    [N, P, D, I], // 18: running I
-    // only one applicable: a child has counted before, and this one does not
-    [N, N, N, N], // 19: running N
-    [P, P, P, P], // 20: running P
-    [D, D, D, D], // 21: running D
-    [I, I, I, I], // 22: running I
+    [N, P, D, I], // 4: running N
+    [N, P, D, I], // 5: running P
+    [N, P, D, I], // 6: running D
+    [N, P, D, I], // 7: running I
+    // only one applicable: no child has counted before, and this one does not
+    [N, N, N, N], // 8: running N
+    [N, N, N, N], // 9: running P
+    [N, N, N, N], // 10: running D
+    [N, N, N, N], // 11: running I
     // only one applicable: a child has counted before, and this one does
-    [I, I, I, I], // 23: running N
-    [I, I, I, I], // 24: running P
-    [I, I, I, I], // 25: running D
-    [I, I, I, I], // 26: running I
+    [I, I, I, I], // 12: running N
+    [I, I, I, I], // 13: running P
+    [I, I, I, I], // 14: running D
+    [I, I, I, I], // 15: running I
+    // only one applicable: a child has counted before, and this one does not
+    [N, N, N, N], // 16: running N
+    [P, P, P, P], // 17: running P
+    [D, D, D, D], // 18: running D
+    [I, I, I, I], // 19: running I
+    // permit overrides
+    [N, P, D, I], // 20: running N
+    [P, P, P, P], // 21: running P
+    [D, P, D, D], // 22: running D
+    [I, P, D, I], // 23: running I
+    // deny overrides
+    [N, P, D, D], // 24: running N
+    [P, P, D, D], // 25: running P
+    [D, D, D, D], // 26: running D
 ];
 
-// How many rows further on those of only one applicable are, where a child has counted before or not, and this one counts or not.
-fn further(counted: bool, counts: bool) -> usize
-    ensures { λ r. ⌜ (r ≡ onlyOneFurther counted counts) × (r < 20) ⌝ }
+// The first of only one applicable's rows, where a child has counted before or not, and this one counts or not.
+fn only_one_row(counted: bool, counts: bool) -> usize
+    ensures { λ r. ⌜ (r ≡ onlyOneRow counted counts) × (r < 17) ⌝ }
 {
     if counted {
-        if counts { 19 } else { 15 }
+        if counts { 12 } else { 16 }
     } else {
-        if counts { 11 } else { 0 }
+        if counts { 4 } else { 8 }
     }
 }
 
-// Which row of the table a group goes by: by its kind, its running decision, whether a child has counted, and whether this one counts.
+// The first of a kind's rows, where a child has counted before or not, and this one counts or not.
+fn first_row(kind: u8, counted: bool, counts: bool) -> usize
+    requires { ⌜ kind < 4 ⌝ }
+    ensures { λ r. ⌜ (r ≡ firstRow kind counted counts) × (r < 25) ⌝ }
+{
+    match kind {
+        Kind::FIRST_APPLICABLE => 0,
+        Kind::ONLY_ONE_APPLICABLE => only_one_row(counted, counts),
+        Kind::PERMIT_OVERRIDES => 20,
+        _ => 24,
+    }
+}
+
+// Which row a group goes by: by its kind, its running decision, whether a child has counted before, and whether this one counts.
 fn row_of(kind: u8, running: u8, counted: bool, counts: bool) -> usize
     requires { ⌜ (kind < 4) × (running < 4) ⌝ }
     requires { ⌜ NeverIndeterminate kind running ⌝ }
     ensures { λ r. ⌜ (r ≡ rowOf kind running counted counts) × (r < 27) ⌝ }
 {
-    let row = 4 * kind as usize + running as usize;
-    if kind == Kind::ONLY_ONE_APPLICABLE {
-        row + further(counted, counts)
-    } else {
-        row
-    }
+    first_row(kind, counted, counts) + running as usize
 }
 
 // A group's decision so far (document 01's running decision) and whether a child has counted, with the group's kind.

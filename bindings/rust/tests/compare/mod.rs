@@ -17,7 +17,7 @@ const NUMBERS: usize = 17;
 
 /// How many tests compare, and how many comparisons all of them make at least.
 const TESTS: usize = 22;
-const COMPARISONS: u64 = 540_000_000;
+const COMPARISONS: u64 = 625_000_000;
 
 /// What the tests that ended did.
 static ENDED: Mutex<Ended> = Mutex::new(Ended {
