@@ -14,17 +14,17 @@ use Rattle.combining.specs.declared.Running.{Running}
 -- paper 2, "the constant table's rows for 'only one' go by that, and by whether the child taken in counts, as well": the first of these rows where
 -- a child has counted before or not, and the child taken in counts or not
 abbrev pub onlyOneRow : Bool → Bool → ℕ
-onlyOneRow counted counts = cond counted (cond counts 12 16) (cond counts 4 8)
+onlyOneRow counted counts = cond counted (cond counts 23 19) (cond counts 15 4)
 
--- paper 5, "whose rows from then on are listed one after another": the first of the rows of a kind, first, only one, may beats, may not beats
+-- paper 5, "whose rows from then on are listed one after another": the first of a kind's rows, for each of these cases
 abbrev pub firstRow : ℕ → Bool → Bool → ℕ
 firstRow k counted counts =
     cond (eqb k firstApplicableKind) 0
     (cond (eqb k onlyOneApplicableKind) (onlyOneRow counted counts)
-    (cond (eqb k permitOverridesKind) 20
-    24))
+    (cond (eqb k permitOverridesKind) 8
+    12))
 
--- "indexed by group kind, running decision": the row of these, where a child has counted before or not, and the child taken in counts or not
+-- "indexed by group kind, running decision": the row of these, and of whether a child has counted before, and whether the child taken in counts
 abbrev pub rowOf : ℕ → ℕ → Bool → Bool → ℕ
 rowOf k running counted counts = firstRow k counted counts + running
 

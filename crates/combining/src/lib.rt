@@ -69,58 +69,58 @@ const COMBINING: Ways = [
     [P, P, P, P], // 1: running P
     [D, D, D, D], // 2: running D
     [I, I, I, I], // 3: running I
-    // only one applicable: no child has counted before, and this one does
-    [N, P, D, I], // 4: running N
-    [N, P, D, I], // 5: running P
-    [N, P, D, I], // 6: running D
-    [N, P, D, I], // 7: running I
     // only one applicable: no child has counted before, and this one does not
-    [N, N, N, N], // 8: running N
-    [N, N, N, N], // 9: running P
-    [N, N, N, N], // 10: running D
-    [N, N, N, N], // 11: running I
-    // only one applicable: a child has counted before, and this one does
-    [I, I, I, I], // 12: running N
-    [I, I, I, I], // 13: running P
-    [I, I, I, I], // 14: running D
-    [I, I, I, I], // 15: running I
-    // only one applicable: a child has counted before, and this one does not
-    [N, N, N, N], // 16: running N
-    [P, P, P, P], // 17: running P
-    [D, D, D, D], // 18: running D
-    [I, I, I, I], // 19: running I
+    [N, N, N, N], // 4: running N
+    [N, N, N, N], // 5: running P
+    [N, N, N, N], // 6: running D
+    [N, N, N, N], // 7: running I
     // permit overrides
-    [N, P, D, I], // 20: running N
-    [P, P, P, P], // 21: running P
-    [D, P, D, D], // 22: running D
-    [I, P, D, I], // 23: running I
+    [N, P, D, I], // 8: running N
+    [P, P, P, P], // 9: running P
+    [D, P, D, D], // 10: running D
+    [I, P, D, I], // 11: running I
     // deny overrides
-    [N, P, D, D], // 24: running N
-    [P, P, D, D], // 25: running P
-    [D, D, D, D], // 26: running D
+    [N, P, D, D], // 12: running N
+    [P, P, D, D], // 13: running P
+    [D, D, D, D], // 14: running D
+    // only one applicable: no child has counted before, and this one does
+    [N, P, D, I], // 15: running N
+    [N, P, D, I], // 16: running P
+    [N, P, D, I], // 17: running D
+    [N, P, D, I], // 18: running I
+    // only one applicable: a child has counted before, and this one does not
+    [N, N, N, N], // 19: running N
+    [P, P, P, P], // 20: running P
+    [D, D, D, D], // 21: running D
+    [I, I, I, I], // 22: running I
+    // only one applicable: a child has counted before, and this one does
+    [I, I, I, I], // 23: running N
+    [I, I, I, I], // 24: running P
+    [I, I, I, I], // 25: running D
+    [I, I, I, I], // 26: running I
 ];
 
 // The first of only one applicable's rows, where a child has counted before or not, and this one counts or not.
 fn only_one_row(counted: bool, counts: bool) -> usize
-    ensures { λ r. ⌜ (r ≡ onlyOneRow counted counts) × (r < 17) ⌝ }
+    ensures { λ r. ⌜ (r ≡ onlyOneRow counted counts) × (r < 24) ⌝ }
 {
     if counted {
-        if counts { 12 } else { 16 }
+        if counts { 23 } else { 19 }
     } else {
-        if counts { 4 } else { 8 }
+        if counts { 15 } else { 4 }
     }
 }
 
 // The first of a kind's rows, where a child has counted before or not, and this one counts or not.
 fn first_row(kind: u8, counted: bool, counts: bool) -> usize
     requires { ⌜ kind < 4 ⌝ }
-    ensures { λ r. ⌜ (r ≡ firstRow kind counted counts) × (r < 25) ⌝ }
+    ensures { λ r. ⌜ (r ≡ firstRow kind counted counts) × (r < 24) ⌝ }
 {
     match kind {
         Kind::FIRST_APPLICABLE => 0,
         Kind::ONLY_ONE_APPLICABLE => only_one_row(counted, counts),
-        Kind::PERMIT_OVERRIDES => 20,
-        _ => 24,
+        Kind::PERMIT_OVERRIDES => 8,
+        _ => 12,
     }
 }
 
