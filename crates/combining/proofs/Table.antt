@@ -78,7 +78,7 @@ row-below k d counted counts hk hd =
     ltb→lt (rowOf k d counted counts) 27
     (passes runningsOf (λ k r c. ltb (rowOf k (r .decision) (r .counts) (c .counts)) 27) tt k (asChild d counted) (asChild notApplicable counts) hk hd (lit< tt))
 
--- and all of them: no row differs from each that is tested
+-- and every row is tested: none of the 27 differs from all that are
 every-row : T (below 27 (λ i. not (everywhere runningsOf (λ k r c. not (eqb (rowOf k (r .decision) (r .counts) (c .counts)) i)))))
 every-row = tt
 

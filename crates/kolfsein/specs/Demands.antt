@@ -158,8 +158,8 @@ pub record Demands : Type 0 where
       (lowOf (rangesWord t i) f ≡ low t i f) × (highOf (rangesWord t i) f ≡ high t i f)
   pub target-from-word : (t q : List ℕ) (i : ℕ) → Bytes t → targetHoldsFrom (rangesWord t i) q ≡ targetHolds t q i
   -- paper 5, "Show that such a group never gives unclear, for questions and parties alike, and that its running decision never is unclear": a group
-  -- "may not beats", at any node, for any test of which nodes apply; the running decision with any number of its children taken in, which with all
-  -- of them is what the group gives
+  -- "may not beats", at any node, for any test of which nodes apply, as a question's and a party's are; the running decision with any number of its
+  -- children taken in, which with all of them is what the group gives
   pub never-unclear : (t : List ℕ) (a : ℕ → Bool) (i : ℕ) → kind t i ≡ denyOverridesKind → decision a t i ≡ indeterminate → ⊥
   pub running-never-unclear : (t : List ℕ) (a : ℕ → Bool) (i n : ℕ) → kind t i ≡ denyOverridesKind → runningDecision a t i n ≡ indeterminate → ⊥
   pub running-ends : (t : List ℕ) (a : ℕ → Bool) (i : ℕ) → a i ≡ true → isRule t i ≡ false →
