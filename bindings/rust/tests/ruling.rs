@@ -152,7 +152,7 @@ fn silent_groups_count() {
     compare.end(25_000, [0, 10, 13], 30);
 }
 
-fn is_unclear(ruled: &Result<Ruled, Refused>) -> bool {
+fn is_indeterminate(ruled: &Result<Ruled, Refused>) -> bool {
     matches!(ruled, Ok(Ruled { decision: 3, .. }))
 }
 
@@ -161,7 +161,7 @@ fn is_unclear(ruled: &Result<Ruled, Refused>) -> bool {
 #[test]
 fn deny_overrides_never_indeterminate() {
     let mut compare = Compare::new("deny overrides as the root");
-    let mut unclear = 0;
+    let mut otherwise = 0;
     for seed in 0..3_000 {
         compare.case("seed", seed);
         let mut random = Random::new(seed);
@@ -178,16 +178,24 @@ fn deny_overrides_never_indeterminate() {
         for values in every_request(denying.maxima) {
             let ruled = denying.rule_one(values);
             compare.looks_up_with(&diagram, values, &ruled, [127]);
-            compare.same("whether it is unclear", is_unclear(&ruled), false);
-            unclear += u32::from(is_unclear(&permitting.rule_one(values)));
+            compare.same(
+                "whether it is indeterminate",
+                is_indeterminate(&ruled),
+                false,
+            );
+            otherwise += u32::from(is_indeterminate(&permitting.rule_one(values)));
         }
         for joint in some_joint_requests(&mut random, maxima, &[], 40) {
             let ruled = denying.rule(&joint);
             compare.rules_with(&bytes, &joint, &ruled, [127]);
-            compare.same("whether it is unclear", is_unclear(&ruled), false);
-            unclear += u32::from(is_unclear(&permitting.rule(&joint)));
+            compare.same(
+                "whether it is indeterminate",
+                is_indeterminate(&ruled),
+                false,
+            );
+            otherwise += u32::from(is_indeterminate(&permitting.rule(&joint)));
         }
     }
-    assert!(unclear >= 6_000, "unclear {unclear} times under may beats");
+    assert!(otherwise >= 6_000, "{otherwise} times under may beats");
     compare.end(85_000_000, [0, 9, 13], 9_000);
 }

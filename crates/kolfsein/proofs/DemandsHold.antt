@@ -167,12 +167,12 @@ demands-hold =
       ranges-fit = ranges-fit;
       ranges-read-back = λ t i f b. reads-back t i b f;
       target-from-word = λ t q i b. target-from t i (rangesWord t i) (reads-back t i b) q;
-      never-unclear = λ t a. decision-clear a t;
-      running-never-unclear = λ t a. running-clear a t;
+      never-indeterminate = λ t a. decision-clear a t;
+      running-never-indeterminate = λ t a. running-clear a t;
       running-ends = λ t a i h g. running-ends a t i h (leb-false 4 (kind t i) g);
-      ruling-never-unclear =
+      ruling-never-indeterminate =
           λ t e s others n. (ruling-clear (rulingRefusals t s others n) t s others e, ruling-clear (rulingStandardRefusals t s others n) t s others e);
-      diagram-never-unclear =
+      diagram-never-indeterminate =
           λ t e room b following q n l h.
           built-clear t following q n l e (sym (ap (λ d. lookedUp (d ++ following) q n .decision) (walked t room b)) ∙ h);
       diagram-rules = through;

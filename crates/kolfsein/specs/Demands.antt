@@ -160,15 +160,15 @@ pub record Demands : Type 0 where
   -- paper 5, "Show that such a group never gives unclear, for questions and parties alike, and that its running decision never is unclear": a group
   -- "may not beats", at any node, for any test of which nodes apply, as a question's and a party's are; the running decision with any number of its
   -- children taken in, which with all of them is what the group gives
-  pub never-unclear : (t : List ℕ) (a : ℕ → Bool) (i : ℕ) → kind t i ≡ denyOverridesKind → decision a t i ≡ indeterminate → ⊥
-  pub running-never-unclear : (t : List ℕ) (a : ℕ → Bool) (i n : ℕ) → kind t i ≡ denyOverridesKind → runningDecision a t i n ≡ indeterminate → ⊥
+  pub never-indeterminate : (t : List ℕ) (a : ℕ → Bool) (i : ℕ) → kind t i ≡ denyOverridesKind → decision a t i ≡ indeterminate → ⊥
+  pub running-never-indeterminate : (t : List ℕ) (a : ℕ → Bool) (i n : ℕ) → kind t i ≡ denyOverridesKind → runningDecision a t i n ≡ indeterminate → ⊥
   pub running-ends : (t : List ℕ) (a : ℕ → Bool) (i : ℕ) → a i ≡ true → isRule t i ≡ false →
       runningDecision a t i (length (children a t (under t i))) ≡ decision a t i
   -- "rulebooks whose root is 'may not beats'": whatever is asked of such a table, by the profile or not, or of a diagram built from it, no answer is
   -- unclear
-  pub ruling-never-unclear : (t : List ℕ) → kind t 0 ≡ denyOverridesKind → (s : ℕ) (others : List ℕ) (n : ℕ) →
+  pub ruling-never-indeterminate : (t : List ℕ) → kind t 0 ≡ denyOverridesKind → (s : ℕ) (others : List ℕ) (n : ℕ) →
       (ruling t s others n .decision ≡ indeterminate → ⊥) × (rulingStandard t s others n .decision ≡ indeterminate → ⊥)
-  pub diagram-never-unclear : (t : List ℕ) → kind t 0 ≡ denyOverridesKind → (room : ℕ) → Builds t room → (following q : List ℕ) (n : ℕ) →
+  pub diagram-never-indeterminate : (t : List ℕ) → kind t 0 ≡ denyOverridesKind → (room : ℕ) → Builds t room → (following q : List ℕ) (n : ℕ) →
       length q ≡ fields → lookedUp (usedPart t room ++ following) q n .decision ≡ indeterminate → ⊥
   -- Demand 3: "Through a diagram built here from any accepted table, in whatever room was lent, any question within the table's fields,
   -- asked with any list long enough for its cards, gets a ruling whose decision, count and list, number for number, are the ones the groups
