@@ -156,6 +156,10 @@ fn is_indeterminate(ruled: &Result<Ruled, Refused>) -> bool {
     matches!(ruled, Ok(Ruled { decision: 3, .. }))
 }
 
+fn never_indeterminate(compare: &mut Compare, ruled: &Result<Ruled, Refused>) {
+    compare.same("indeterminate", is_indeterminate(ruled), false);
+}
+
 /// "Show that such a group never gives unclear, for questions and parties alike": a root that is "may not beats", by the
 /// groups and by the diagram. That it would be under another root is seen by one that is "may beats".
 #[test]
@@ -178,21 +182,13 @@ fn deny_overrides_never_indeterminate() {
         for values in every_request(denying.maxima) {
             let ruled = denying.rule_one(values);
             compare.looks_up_with(&diagram, values, &ruled, [127]);
-            compare.same(
-                "whether it is indeterminate",
-                is_indeterminate(&ruled),
-                false,
-            );
+            never_indeterminate(&mut compare, &ruled);
             otherwise += u32::from(is_indeterminate(&permitting.rule_one(values)));
         }
         for joint in some_joint_requests(&mut random, maxima, &[], 40) {
             let ruled = denying.rule(&joint);
             compare.rules_with(&bytes, &joint, &ruled, [127]);
-            compare.same(
-                "whether it is indeterminate",
-                is_indeterminate(&ruled),
-                false,
-            );
+            never_indeterminate(&mut compare, &ruled);
             otherwise += u32::from(is_indeterminate(&permitting.rule(&joint)));
         }
     }

@@ -36,6 +36,7 @@ module _ (t tail : List ℕ) (b : Bytes t) (c : Accepted t) (most : length (diag
       walked-diagram-answers (maxima t) (groups t) tail (maxima-length t) (λ i l. maxima-bytes t b i (omega (arith, maxima-length t)))
       (λ p v. groups-holdable t p c) most q n (within-maxima t q .0 (e, w)) long
 
+-- where the table's root is deny overrides: no answer is indeterminate, whatever is asked
 pub built-clear : (t tail q : List ℕ) (n : ℕ) → length q ≡ fields → NeverIndeterminate (kind t 0) (lookedUp (diagramOf t ++ tail) q n .decision)
 built-clear t tail =
     walked-so (maxima t) (groups t) tail (maxima-length t) (NeverIndeterminate (kind t 0)) (none-clear (kind t 0)) (λ q w. decision-clear (applies t q) t 0)

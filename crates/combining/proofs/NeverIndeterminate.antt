@@ -7,7 +7,7 @@ use Prim.Native.Nat.{ℕ}
 use native.Mathlib.Omega.{arith}
 use Rattle.combining.specs.Ways.{notApplicable, permit, deny, indeterminate, Child, decisions, denyOverrides, way, step, taken, NeverIndeterminate}
 
--- the other three decisions
+-- the three decisions that are not indeterminate
 data Clear : ℕ → Type 0 where
   none : Clear notApplicable
   permits : Clear permit
@@ -18,23 +18,23 @@ clear-not none e = omega (arith, e)
 clear-not permits e = omega (arith, e)
 clear-not denies e = omega (arith, e)
 
--- a choice between such
+-- a choice between two that are not indeterminate is not
 chosen : (b : Bool) {x y : ℕ} → Clear x → Clear y → Clear (cond b x y)
 chosen true h k = h
 chosen false h k = k
 
--- of any children
+-- what deny overrides gives, of any children
 pub way-clear : (k : ℕ) (cs : List Child) → NeverIndeterminate k (way k cs)
 way-clear k cs e h = clear-not (clear (decisions cs)) (sym (ap (λ k. way k cs) e) ∙ h)
   where
     clear : (ds : List ℕ) → Clear (denyOverrides ds)
     clear ds = search (chosen, none, permits, denies)
 
--- not applicable, at which a running decision starts
+-- not applicable, at which a running decision starts, is not indeterminate
 pub none-clear : (k : ℕ) → NeverIndeterminate k notApplicable
 none-clear k e h = omega (arith, h)
 
--- with any children more
+-- a running decision with any children more
 pub taken-clear : (k : ℕ) (r : Child) (cs : List Child) → NeverIndeterminate k (r .decision) → NeverIndeterminate k (taken k r cs .decision)
 taken-clear k r [] h = h
 taken-clear k r (c ∷ cs) h = taken-clear k (step k r c) cs (way-clear k (r ∷ c ∷ []))

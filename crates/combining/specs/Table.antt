@@ -16,7 +16,8 @@ use Rattle.combining.specs.declared.Running.{Running}
 abbrev pub onlyOneRow : Bool → Bool → ℕ
 onlyOneRow counted counts = cond counted (cond counts 23 19) (cond counts 15 4)
 
--- paper 5, "whose rows from then on are listed one after another": the first of a kind's rows, for each of these cases
+-- paper 5, "whose rows from then on are listed one after another": the first of a kind's rows where a child has counted before or not, and the
+-- child taken in counts or not
 abbrev pub firstRow : ℕ → Bool → Bool → ℕ
 firstRow k counted counts =
     cond (eqb k firstApplicableKind) 0

@@ -21,6 +21,7 @@ use Rattle.ruling.specs.Ruling.{groupsTogether, ruledAfter}
 use Rattle.ruling.proofs.Decisions.{gives-not, gives-group, children-below}
 
 module _ (a : ℕ → Bool) (t : List ℕ) where
+  -- what a node gives
   pub decision-clear : (i : ℕ) → NeverIndeterminate (kind t i) (decision a t i)
   decision-clear i e = by (a i) refl
     where
@@ -28,11 +29,11 @@ module _ (a : ℕ → Bool) (t : List ℕ) where
       by true h d = way-clear (kind t i) (children a t (under t i)) e (sym (gives-group a t i (children a t (under t i)) h (omega arith)) ∙ d)
       by false h d = none-clear (kind t i) e (sym (gives-not a t i (children a t (under t i)) h) ∙ d)
 
-  -- with any number of its children taken in
+  -- a group's running decision, with any number of its children taken in
   pub running-clear : (i n : ℕ) → NeverIndeterminate (kind t i) (runningDecision a t i n)
   running-clear i n = taken-clear (kind t i) absent (take n (children a t (under t i))) (none-clear (kind t i))
 
-  -- with all of them taken in it is what the group gives
+  -- with all its children taken in, a running decision is what the group gives
   pub running-ends : (i : ℕ) → a i ≡ true → kind t i < 4 → runningDecision a t i (length (children a t (under t i))) ≡ decision a t i
   running-ends i h l =
       let cs = children a t (under t i) in
