@@ -6,3 +6,4 @@ pub mod RequestsInOrder
 pub mod Settling
 pub mod RequestRefusals
 pub mod Stored
+pub mod Cleared

@@ -1,12 +1,12 @@
 -- Laws of numbers stored one after another in a list, as far as it reaches.
 -- Assumes nothing.
-use mathlib.Core.Path.{_≡_, sym, ap, _∙_}
+use mathlib.Core.Path.{_≡_, refl, sym, ap, _∙_}
 use mathlib.Core.List.{List, [], _∷_, _++_}
 use Prim.Native.Nat.{ℕ, zero, suc, _+_, _-_, _≤_, _<_}
 use native.Mathlib.Omega.{arith}
 use native.Mathlib.Numerals.{add-one}
-use lib.ListN.{length, getD, set, take, drop, length-replicate}
-use lib.Seq.{sets, sets-eq, take-suc, length-take-le}
+use lib.ListN.{length, getD, set, take, drop, length-set, length-replicate}
+use lib.Seq.{sets, sets-eq, take-suc, take-all, length-take-le}
 use Rattle.answer.specs.Answers.{zeros, padded}
 
 -- storing cs and then ds is storing both at once
@@ -34,15 +34,31 @@ pub stored-cleared : (cs list before : List ℕ) (n : ℕ) → before ≡ zeros 
 stored-cleared cs list before n z e l = e ∙ ap (λ b. sets b 0 cs) z ∙ stored-padded cs n l
 
 -- the numbers before the i-th stand from place k on, and it is stored
-pub stored-on : (ns list : List ℕ) (k i : ℕ) → i < length ns → set (sets list k (take i ns)) (k + i) (getD ns i 0) ≡ sets list k (take (i + 1) ns)
+stored-on : (ns list : List ℕ) (k i : ℕ) → i < length ns → set (sets list k (take i ns)) (k + i) (getD ns i 0) ≡ sets list k (take (i + 1) ns)
 stored-on ns list k i l =
     let z : k + i ≡ k + length (take i ns) = omega (arith, length-take-le i ns (omega arith)) in
     ap (λ n. set (sets list k (take i ns)) n (getD ns i 0)) z
     ∙ sym (stored-join (take i ns) (getD ns i 0 ∷ []) list k)
     ∙ ap (sets list k) (sym (take-suc ns i 0 l) ∙ ap (λ n. take n ns) (sym (add-one i)))
 
--- numbers stored from the first place on, and one more
-pub stored-more : (ns list : List ℕ) (i : ℕ) → i < length ns → set (sets list 0 (take i ns)) i (getD ns i 0) ≡ sets list 0 (take (i + 1) ns)
-stored-more ns list i l =
-    let z : i ≡ 0 + i = omega arith in
-    ap (λ n. set (sets list 0 (take i ns)) n (getD ns i 0)) z ∙ stored-on ns list 0 i l
+-- of so many numbers, those before the i-th stand from place k on, and the rest is as it was
+abbrev pub StoredUpTo : List ℕ → List ℕ → ℕ → ℕ → List ℕ → ℕ → Type 0
+StoredUpTo ns before k count list i =
+    (count ≡ length ns) × (i ≤ count) × (list ≡ sets before k (take i ns)) × (length list ≡ length before)
+
+pub stored-none : (ns before : List ℕ) (k : ℕ) → StoredUpTo ns before k (length ns) before 0
+stored-none ns before k = (refl, omega arith, refl, refl)
+
+module _ (ns before list : List ℕ) (k count i : ℕ) (s : StoredUpTo ns before k count list i) where
+  pub stored-more : (at : ℕ) → at ≡ k + i → i < count → StoredUpTo ns before k count (set list at (getD ns i 0)) (i + 1)
+  stored-more at e l = (
+    s .0,
+    omega arith,
+    ap (λ n. set list n (getD ns i 0)) e
+        ∙ ap (λ xs. set xs (k + i) (getD ns i 0)) (s .2)
+        ∙ stored-on ns before k i (omega (arith, s .0)),
+    length-set list at (getD ns i 0) ∙ s .3,
+  )
+
+  pub stored-all : count ≤ i → list ≡ sets before k ns
+  stored-all l = s .2 ∙ ap (sets before k) (take-all i ns (omega (arith, s .0)))

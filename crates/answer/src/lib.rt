@@ -1,4 +1,4 @@
-// What every call shares: the answer it hands back, the request it is asked, and a lent list that is cleared.
+// What every call shares: the answer it hands back, the request it is asked, and what it is lent to write, cleared and written.
 ghost use mathlib.Core.Path.{_≡_};
 ghost use mathlib.Core.List.{_++_};
 ghost use Prim.Native.Nat.{_+_, _≤_};
@@ -117,6 +117,31 @@ pub fn store(numbers: &[u16], list: &mut [u16])
     let mut i = 0;
     while i < count {
         list[i] = numbers[i];
+        i += 1;
+    }
+}
+
+// Zeros throughout a lent table.
+pub fn clear_bytes(table: &mut [u8])
+    ensures { λ _. ⌜ now (table .exit) ≡ zeros (length (now (table .entry))) ⌝ }
+{
+    let n = table.len();
+    let mut place = 0;
+    while place < n {
+        table[place] = 0;
+        place += 1;
+    }
+}
+
+// Bytes into a table that has room for them from a place on.
+pub fn store_bytes(bytes: &[u8], table: &mut [u8], at: usize)
+    requires { ⌜ at + length (now bytes) ≤ length (now table) ⌝ }
+    ensures { λ _. ⌜ now (table .exit) ≡ sets (now (table .entry)) at (now (bytes .entry)) ⌝ }
+{
+    let count = bytes.len();
+    let mut i = 0;
+    while i < count {
+        table[at + i] = bytes[i];
         i += 1;
     }
 }

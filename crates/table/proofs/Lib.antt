@@ -7,6 +7,7 @@ pub mod Header
 pub mod Good
 pub mod Accepting
 pub mod Pass
+pub mod LevelByLevel
 pub mod AcceptedIsWellFormed
 pub mod ParentsAndSpansAgree
 pub mod Maxima

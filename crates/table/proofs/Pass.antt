@@ -1,6 +1,6 @@
 -- The pass over the nodes: what it holds before each node, what that says of the node, and how it goes on.
 -- Assumes nothing.
-use mathlib.Core.Path.{_≡_, refl, sym, ap, ap₂, subst, _∙_}
+use mathlib.Core.Path.{_≡_, refl, sym, ap, ap₂, _∙_}
 use mathlib.Core.Bool.{Bool, true, false, Bool·beq, cond, _&&_}
 use mathlib.Core.Logic.{⊎-elim}
 use mathlib.Core.List.{List}
@@ -10,41 +10,22 @@ use native.Mathlib.Omega.{arith}
 use borrow.Author.Count.{below-more}
 use borrow.Author.Tests.{ne-eqb}
 use lib.ListN.{length, getD, set, length-set}
-use lib.Seq.{getD-set-same, getD-set-other}
+use lib.Seq.{getD-set-other}
 use Rattle.answer.specs.Answers.{refused, counted}
 use Rattle.answer.specs.Below.{everyBelow}
 use Rattle.answer.specs.Refusals.{firstNumber, None}
 use Rattle.answer.proofs.Below.{every-next}
 use Rattle.table.specs.Layout.{count, span}
-use Rattle.table.specs.Tree.{isRule, endOf, latest, parent, level, Above, itself, further}
+use Rattle.table.specs.Tree.{isRule, endOf, parent, level, itself}
 use Rattle.table.specs.Open.{deepest, EndAbove}
 use Rattle.table.specs.Conformance.{asksForRules, ruleAsked, nodeConforms, conforms}
 use Rattle.table.specs.Reading.{headerRefusals, nodeRefusals, reading}
-use Rattle.table.proofs.Tree.{latest-next, latest-climb, parent-below, level-root, level-child, above-level}
-use Rattle.table.proofs.Climb.{Open, open-above, climb}
+use Rattle.table.proofs.Tree.{level-root, level-child}
+use Rattle.table.proofs.Climb.{Open, open-above, After, ParentOpen, climbed, opened, after-opened, after-leaf}
 use Rattle.table.proofs.Good.{good, ends-inside}
 use Rattle.table.proofs.Accepting.{passed-accepted, node-refused, accepted-reading}
 
--- with what f gives of node i, on level r + 1, a list that holds what it gives of the nodes above holds it of node i too
-module _ {A : Type 0} (t : List ℕ) (f : ℕ → A) (none : A) (xs : List A) (i r : ℕ) (v : A) where
-  opened : length xs ≡ 9 → level t i ≡ r + 1 → r < 8 → v ≡ f i → (0 < i → Open t f none xs (parent t i)) → Open t f none (set xs (r + 1) v) i
-  opened s el lr e o = record { held = held }
-    where
-      held : (a : ℕ) → Above t i a → getD (set xs (r + 1) v) (level t a) none ≡ f a
-      held a itself = ap (λ k. getD (set xs (r + 1) v) k none) el ∙ getD-set-same xs (r + 1) v none (omega arith) ∙ e
-      held a (further h u) =
-          getD-set-other xs (r + 1) (level t a) v none (λ q. omega (arith, above-level t u, level-child t i h)) ∙ o h .held a u
-
 module _ (t : List ℕ) (n : ℕ) where
-  -- After node p: node q, on level depth, is the deepest that was opened and may reach further, and the lists are of it and of those above it.
-  pub record After (ends : List ℕ) (rules : List Bool) (depth p : ℕ) : Type 0 where
-    pub q : ℕ
-    pub earlier : q ≤ p
-    pub over : latest t (suc p) (suc p) ≡ latest t (suc p) (suc q)
-    pub on : depth ≡ level t q
-    pub ends-open : Open t (endOf t) 0 ends q
-    pub rules-open : Open t (asksForRules t) false rules q
-
   -- Before node i: all nodes before it pass, and the lists are of the nodes that are open.
   pub record Passed (ends : List ℕ) (rules : List Bool) (conforming : Bool) (depth i : ℕ) : Type 0 where
     pub whole : n ≡ count t
@@ -56,7 +37,7 @@ module _ (t : List ℕ) (n : ℕ) where
     pub group : getD rules 0 false ≡ false
     pub first : i ≡ 0 → depth ≡ 0
     pub root : 0 < i → span t 0 ≡ count t
-    pub last : (p : ℕ) → i ≡ suc p → i < n → After ends rules depth p
+    pub last : 0 < i → i < n → After t ends (Open t (asksForRules t) false rules) depth i
     pub before : (j : ℕ) → j < i → None (nodeRefusals t j)
     pub seen : conforming ≡ everyBelow i (nodeConforms t)
 
@@ -72,7 +53,7 @@ module _ (t : List ℕ) (n : ℕ) where
     group = g;
     first = λ _. refl;
     root = λ l. absurd (omega arith);
-    last = λ p z. absurd (omega arith);
+    last = λ l. absurd (omega arith);
     before = λ j l. absurd (omega arith);
     seen = refl;
   }
@@ -96,14 +77,10 @@ module _ {t : List ℕ} {n : ℕ} {ends : List ℕ} {rules : List Bool} {conform
 module _ {t : List ℕ} {n : ℕ} {ends : List ℕ} {rules : List Bool} {conforming : Bool} {depth r : ℕ} where
   -- the parent of node i is open, on the level that the climb finds
   up : (i : ℕ) → Passed t n ends rules conforming depth i → i < n → r ≡ deepest ends i depth → 0 < i →
-      (r ≡ level t (parent t i)) × (Open t (endOf t) 0 ends (parent t i) × Open t (asksForRules t) false rules (parent t i))
-  up zero s l e h = absurd (omega arith)
-  up (suc p) s l e h =
-      let a = s .last p refl l in
-      let c = climb t ends p (a .q) (a .ends-open) (a .earlier) (omega (arith, s .whole, s .root (omega arith))) (a .over) in (
-        e ∙ ap (deepest ends (suc p)) (a .on) ∙ c .0,
-        (open-above t (endOf t) 0 ends (a .ends-open) (c .1), open-above t (asksForRules t) false rules (a .rules-open) (c .1)),
-      )
+      ParentOpen t ends (Open t (asksForRules t) false rules) r i
+  up i s l e h =
+      climbed t ends (Open t (asksForRules t) false rules) (λ q a u o. open-above t (asksForRules t) false rules o u) depth r i (s .last h l)
+      (omega (arith, s .whole, s .root h)) e
 
   -- the open nodes tell where the nodes that node i stands among end, its level, and what is asked for there
   pub found : (i : ℕ) → Passed t n ends rules conforming depth i → i < n → r ≡ deepest ends i depth →
@@ -149,7 +126,7 @@ module _ {t : List ℕ} {n : ℕ} {ends : List ℕ} {rules : List Bool} {conform
     -- where what is kept of the open nodes is so after it, the pass goes on
     module _ {rule : Bool} (e : rule ≡ isRule t i) where
       went-on : {ends' : List ℕ} {rules' : List Bool} {depth' : ℕ} → depth' ≤ 8 → (length ends' ≡ 9) × (length rules' ≡ 9) →
-          (getD ends' 0 0 ≡ getD ends 0 0) × (getD rules' 0 false ≡ getD rules 0 false) → (i + 1 < n → After t n ends' rules' depth' i) →
+          (getD ends' 0 0 ≡ getD ends 0 0) × (getD rules' 0 false ≡ getD rules 0 false) → (i + 1 < n → After t ends' (Open t (asksForRules t) false rules') depth' (i + 1)) →
           Passed t n ends' rules' (conforming && Bool·beq rule (getD rules r false)) depth' (i + 1)
       unfolding nodeConforms
       went-on {ends'} {rules'} {depth'} few sizes kept after = record {
@@ -162,7 +139,7 @@ module _ {t : List ℕ} {n : ℕ} {ends : List ℕ} {rules : List Bool} {conform
         group = kept .1 ∙ s .group;
         first = λ q. absurd (omega arith);
         root = λ _. root-whole;
-        last = λ p q m. let z : i ≡ p = omega arith in subst (After t n ends' rules' depth') z (after m);
+        last = λ _. after;
         before = all-passed;
         seen = ap₂ (λ b c. b && c) (s .seen) (ap₂ Bool·beq e (found i s l er .2)) ∙ sym (every-next (nodeConforms t) i);
       }
@@ -173,14 +150,10 @@ module _ {t : List ℕ} {n : ℕ} {ends : List ℕ} {rules : List Bool} {conform
       next-opened end ee asks ea =
           went-on shallow (length-set ends (r + 1) end ∙ s .size, length-set rules (r + 1) asks ∙ s .rules-size)
           (getD-set-other ends (r + 1) 0 end 0 (λ q. omega arith), getD-set-other rules (r + 1) 0 asks false (λ q. omega arith))
-          (λ m. record {
-            q = i;
-            earlier = omega arith;
-            over = refl;
-            on = sym on-level;
-            ends-open = opened t (endOf t) 0 ends i r end (s .size) on-level (omega (arith, shallow)) ee (λ h. up i s l er h .1 .0);
-            rules-open = opened t (asksForRules t) false rules i r asks (s .rules-size) on-level (omega (arith, shallow)) ea (λ h. up i s l er h .1 .1);
-          })
+          (λ m.
+          after-opened t (set ends (r + 1) end) (Open t (asksForRules t) false (set rules (r + 1) asks)) r i on-level
+          (opened t (endOf t) 0 ends i r end (s .size) on-level (omega (arith, shallow)) ee (λ h. up i s l er h .1 .0))
+          (opened t (asksForRules t) false rules i r asks (s .rules-size) on-level (omega (arith, shallow)) ea (λ h. up i s l er h .1 .1)))
 
       -- node i holds nothing: its parent stays the deepest that is open
       pub next : span t i ≤ 1 → Passed t n ends rules (conforming && Bool·beq rule (getD rules r false)) r (i + 1)
@@ -191,15 +164,5 @@ module _ {t : List ℕ} {n : ℕ} {ends : List ℕ} {rules : List Bool} {conform
           positive m =
               ⊎-elim (λ (z : i ≡ 0). absurd (omega (arith, s .whole, root-whole, ap (span t) z))) (λ (z : 0 < i). z) (eq-zero-or-pos i)
 
-          after : i + 1 < n → After t n ends rules r i
-          after m =
-              let k = positive m in
-              let u = up i s l er k in
-              record {
-                q = parent t i;
-                earlier = omega (arith, parent-below t i k);
-                over = latest-next t (suc i) i (omega arith) ∙ latest-climb t (suc i) i k (omega arith);
-                on = u .0;
-                ends-open = u .1 .0;
-                rules-open = u .1 .1;
-              }
+          after : i + 1 < n → After t ends (Open t (asksForRules t) false rules) r (i + 1)
+          after m = let k = positive m in after-leaf t ends (Open t (asksForRules t) false rules) r i k h (up i s l er k)

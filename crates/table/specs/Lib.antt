@@ -5,3 +5,4 @@ pub mod Reading
 pub mod WellFormed
 pub mod Open
 pub mod Conformance
+pub mod Writing

@@ -4,8 +4,9 @@ use mathlib.Core.Bool.{Bool, cond}
 use mathlib.Core.List.{List}
 use Prim.Native.Nat.{ℕ, zero, suc, _+_, _<_}
 use lib.Dec.{eqb, leb, ltb}
+use Rattle.answer.specs.Below.{someBelow}
 use Rattle.combining.specs.Kinds.{permitRuleKind}
-use Rattle.table.specs.Layout.{kind, span}
+use Rattle.table.specs.Layout.{count, kind, span}
 
 -- "Kinds 4 and 5 are rules". A kind over 5 is refused before this is asked.
 abbrev pub isRule : List ℕ → ℕ → Bool
@@ -32,6 +33,10 @@ levelWithin (suc n) t i = cond (eqb i 0) 1 (suc (levelWithin n t (parent t i)))
 -- the level of node i
 unfoldable pub level : List ℕ → ℕ → ℕ
 level t i = levelWithin i t i
+
+-- some node is on level l or deeper
+unfoldable pub hasLevel : List ℕ → ℕ → Bool
+hasLevel t l = someBelow (count t) (λ i. leb l (level t i))
 
 -- Node j is node i, or is reached from it by following parents.
 pub data Above (t : List ℕ) : ℕ → ℕ → Type 0 where

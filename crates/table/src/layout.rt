@@ -12,14 +12,14 @@ pub const VERSION: usize = 2;
 
 const MAXIMA: usize = 3;
 
-const COUNT: usize = MAXIMA + FIELDS;
+pub(crate) const COUNT: usize = MAXIMA + FIELDS;
 
 const HEADER: usize = COUNT + 2;
 
 // A record: kind (1), span (2), card (2), low and high for each field.
 const KIND: usize = 0;
 
-const SPAN: usize = 1;
+pub(crate) const SPAN: usize = 1;
 
 const CARD: usize = 3;
 

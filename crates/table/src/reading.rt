@@ -183,7 +183,7 @@ fn node_fault(table: &[u8], i: usize, above: usize, depth: usize) -> u8
 
 // The level of the node right above node i, by climbing from the deepest level that is open: ends says where the open node of each
 // level ends. A node opens at most one level and that is left once, so all climbs together leave no more levels than there are nodes.
-fn depth_above(ends: &[usize; LEVELS + 1], depth: usize, i: usize) -> usize
+pub(crate) fn depth_above(ends: &[usize; LEVELS + 1], depth: usize, i: usize) -> usize
     requires { ⌜ depth ≤ 8 ⌝ }
     ensures { λ r. ⌜ (r ≡ deepest (now (ends .entry)) i depth) × (r ≤ depth) ⌝ }
 {
