@@ -1,6 +1,6 @@
 -- What a comparison tells, and two tests together.
 -- Assumes nothing.
-use mathlib.Core.Path.{_≡_, refl}
+use mathlib.Core.Path.{_≡_, refl, sym}
 use mathlib.Core.Bool.{Bool, true, false, _&&_, _||_, true≢false, false≢true}
 use mathlib.Core.Logic.{_⊎_, inl, inr}
 use Prim.Native.Nat.{ℕ, _≤_, _<_}
@@ -21,6 +21,12 @@ neither false b e = (refl, e)
 pub both : (a b : Bool) → (a && b) ≡ true → (a ≡ true) × (b ≡ true)
 both true b e = (refl, e)
 both false b e = absurd (false≢true e)
+
+-- each of two tests passes where the other does
+pub passes-alike : (a b : Bool) → (a ≡ true → b ≡ true) → (b ≡ true → a ≡ true) → a ≡ b
+passes-alike true b f g = sym (f refl)
+passes-alike false true f g = g refl
+passes-alike false false f g = refl
 
 -- two tests, where one is known
 

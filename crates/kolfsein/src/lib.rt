@@ -2,6 +2,7 @@
 use answer::Answer;
 use answer::JointRequest;
 use answer::Request;
+use attaching::attach;
 use building::build;
 use lookup::look_up;
 use ruling::rule;
@@ -15,6 +16,7 @@ ghost use Rattle.table.specs.Reading.{reading};
 ghost use Rattle.ruling.specs.Ruling.{ruling, ruledList};
 ghost use Rattle.standard.specs.Profile.{readingStandard};
 ghost use Rattle.standard.specs.RulingStandard.{rulingStandard, ruledListStandard};
+ghost use Rattle.attaching.specs.Attached.{attached, attachedTable};
 ghost use Rattle.building.specs.Built.{built, builtDiagram};
 ghost use Rattle.diagram.specs.LookedUp.{lookedUp, lookedUpList};
 
@@ -97,4 +99,13 @@ pub extern "C" fn kolfsein_look_up(
         values: [subject, resource, action],
     };
     look_up(diagram, request, cards)
+}
+
+// Fits an expansion to a base table, in the bytes that are lent.
+#[no_mangle]
+pub extern "C" fn kolfsein_attach(base: &[u8], expansion: &[u8], table: &mut [u8]) -> Answer
+    ensures { λ r. ⌜ r ≡ attached (now (base .entry)) (now (expansion .entry)) (length (now (table .entry))) ⌝ }
+    ensures { λ _. ⌜ now (table .exit) ≡ attachedTable (now (base .entry)) (now (expansion .entry)) (length (now (table .entry))) ⌝ }
+{
+    attach(base, expansion, table)
 }

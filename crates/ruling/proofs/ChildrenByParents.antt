@@ -1,9 +1,9 @@
 -- In an accepted table, the nodes under a node are its children, those whose parent it is, each with the nodes under it.
 -- Assumes nothing.
-use mathlib.Core.Path.{_≡_, refl, sym, ap, subst, _∙_}
+use mathlib.Core.Path.{_≡_, refl, sym, ap, ap₂, subst, _∙_}
 use mathlib.Core.Bool.{Bool, true, false, cond}
 use mathlib.Core.Logic.{⊎-elim}
-use mathlib.Core.List.{List, [], _∷_}
+use mathlib.Core.List.{List, [], _∷_, _++_}
 use Prim.Native.Nat.{ℕ, zero, suc, _+_, _-_, _≤_, _<_}
 use native.Mathlib.Nat.{eq-or-lt-of-le}
 use native.Mathlib.Omega.{arith}
@@ -56,6 +56,36 @@ module _ (t : List ℕ) (i : ℕ) where
       ∙ more j (e - (j + 1)) _ (ne-eqb (parent t j) i (h j (omega arith) (omega arith)))
       ∙ skip n (j + 1) m e (omega arith) l (λ k a b. h k (omega arith) b)
 
+  -- the children among nodes, and then among those after them
+  pub children-join : (m n j : ℕ) → childrenFrom t i j (m + n) ≡ childrenFrom t i j m ++ childrenFrom t i (j + m) n
+  children-join zero n j =
+      let z : j ≡ j + 0 = omega arith in
+      let y : 0 + n ≡ n = omega arith in
+      ap (childrenFrom t i j) y ∙ ap (λ k. childrenFrom t i k n) z ∙ ap (λ js. js ++ childrenFrom t i (j + 0) n) (sym (none j))
+  children-join (suc m) n j =
+      let z : j + 1 + m ≡ j + suc m = omega arith in
+      let y : suc m + n ≡ suc (m + n) = omega arith in
+      ap (childrenFrom t i j) y
+      ∙ by (eqb (parent t j) i) refl (children-join m n (j + 1) ∙ ap (λ k. childrenFrom t i (j + 1) m ++ childrenFrom t i k n) z)
+    where
+      by : (b : Bool) → eqb (parent t j) i ≡ b → childrenFrom t i (j + 1) (m + n) ≡ childrenFrom t i (j + 1) m ++ childrenFrom t i (j + suc m) n →
+          childrenFrom t i j (suc (m + n)) ≡ childrenFrom t i j (suc m) ++ childrenFrom t i (j + suc m) n
+      by true e h =
+          more j (m + n) true e ∙ ap (λ js. j ∷ js) h ∙ ap (λ js. js ++ childrenFrom t i (j + suc m) n) (sym (more j m true e))
+      by false e h = more j (m + n) false e ∙ h ∙ ap (λ js. js ++ childrenFrom t i (j + suc m) n) (sym (more j m false e))
+
+  -- a first child, and none after it
+  pub children-one : (j n : ℕ) → parent t j ≡ i → ((k : ℕ) → j < k → k < j + suc n → parent t k ≡ i → ⊥) → childrenFrom t i j (suc n) ≡ j ∷ []
+  children-one j n e h =
+      let z : j + suc n - (j + suc n) ≡ 0 = omega arith in
+      let y : n ≡ j + suc n - (j + 1) = omega arith in
+      more j n _ (eq-eqb (parent t j) i e)
+      ∙ ap (λ m. j ∷ childrenFrom t i (j + 1) m) y
+      ∙ ap (λ js. j ∷ js)
+      (skip n (j + 1) (j + suc n) (j + suc n) (omega arith) (omega arith) (λ k a b. h k (omega arith) b)
+      ∙ ap (childrenFrom t i (j + suc n)) z
+      ∙ none (j + suc n))
+
   -- what holds of each node whose parent is node i holds of its children
   each-from : (P : ℕ → Type 0) (n j : ℕ) → ((k : ℕ) → j ≤ k → k < j + n → parent t k ≡ i → P k) → EachOf P (childrenFrom t i j n)
   each-from P zero j h = rw (none j) tt
@@ -82,6 +112,13 @@ module _ (t : List ℕ) (i : ℕ) where
 
   pub each-child : (P : ℕ → Type 0) → EachOf P (childrenOf t i) → (j : ℕ) → 0 < j → j < count t → parent t j ≡ i → P j
   each-child P e j a b h = of-each P (count t - 1) 1 e j a (omega arith) h
+
+-- nodes that have the same parents in two tables
+pub children-alike : (t u : List ℕ) (i n j : ℕ) → ((k : ℕ) → j ≤ k → k < j + n → parent t k ≡ parent u k) → childrenFrom t i j n ≡ childrenFrom u i j n
+unfolding childrenFrom
+children-alike t u i zero j h = refl
+children-alike t u i (suc n) j h =
+    ap₂ (λ p js. cond (eqb p i) (j ∷ js) js) (h j (omega arith) (omega arith)) (children-alike t u i n (j + 1) (λ k a b. h k (omega arith) (omega arith)))
 
 module _ (t : List ℕ) (w : WellFormed t) (i : ℕ) (l : i < count t) where
   -- Node i reaches over node j, and no node between them does: it is j's parent.

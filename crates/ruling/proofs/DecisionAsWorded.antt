@@ -17,7 +17,7 @@ use Rattle.ruling.specs.AsWorded.{holdsAsWorded, decisionAsWorded}
 use Rattle.ruling.specs.Walk.{HoldAbove}
 use Rattle.ruling.proofs.Applies.{applies-is, applies-above}
 use Rattle.ruling.proofs.Throughout.{pass-root, pass-after}
-use Rattle.ruling.proofs.RulingGoesByWhichApply.{Agree, decision-same}
+use Rattle.ruling.proofs.NodesAlike.{Agree, decision-same}
 
 module _ (t q : List ℕ) (w : WellFormed t) where
   -- where every target above a node holds, its own is what counts
@@ -28,9 +28,11 @@ module _ (t q : List ℕ) (w : WellFormed t) where
       by true = refl
       by false = sym (applies-is t q i h (w .spans i l))
 
-  agree : Agree (holdsAsWorded t q) (applies t q) t w (HoldAbove t (targetHolds t q)) (count t)
+  agree : Agree (holdsAsWorded t q) t (applies t q) t (λ i. i) (HoldAbove t (targetHolds t q)) (count t)
   agree = record {
     same = holds-is;
+    kinds = λ i l h. refl;
+    spans = λ i l h. refl;
     down = λ i l h y. applies-above t q i y;
     after = λ i l h. pass-after t (targetHolds t q) i w l h;
   }
@@ -40,4 +42,4 @@ pub decision-as-worded : (t q : List ℕ) → Accepted t → (i : ℕ) → i < c
     decisionAsWorded t q i ≡ decision (applies t q) t i
 decision-as-worded t q c i l h =
     let w = well-formed t c in
-    decision-same (holdsAsWorded t q) (applies t q) t w (omega arith) (agree t q w) i h l (omega (arith, w .inside i l))
+    decision-same (holdsAsWorded t q) t (applies t q) t (λ i. i) (λ i k. refl) w (omega arith) (agree t q w) i h l (omega (arith, w .inside i l))

@@ -6,7 +6,7 @@ use mathlib.Core.List.{List, [], _∷_, map}
 use Prim.Native.Nat.{ℕ, _<_}
 use Rattle.table.specs.Layout.{count}
 use Rattle.table.specs.Reading.{Accepted}
-use Rattle.ruling.specs.Forest.{childrenOf, trees}
+use Rattle.ruling.specs.Forest.{under, childrenOf, trees}
 use Rattle.ruling.specs.Meaning.{gives, childOf, children, decision}
 use Rattle.ruling.proofs.ChildrenByParents.{children-by-parents}
 
@@ -15,6 +15,10 @@ module _ (a : ℕ → Bool) (t : List ℕ) where
   each-child [] = refl
   each-child (i ∷ is) = ap (λ cs. childOf a i (decision a t i) ∷ cs) (each-child is)
 
+  -- the children of a node, in table order
+  pub children-decide : Accepted t → (i : ℕ) → i < count t → children a t (under t i) ≡ map (λ j. childOf a j (decision a t j)) (childrenOf t i)
+  children-decide c i l = ap (children a t) (children-by-parents t c i l) ∙ each-child (childrenOf t i)
+
   pub decision-by-children : Accepted t → (i : ℕ) → i < count t →
       decision a t i ≡ gives a t i (map (λ j. childOf a j (decision a t j)) (childrenOf t i))
-  decision-by-children c i l = ap (λ u. gives a t i (children a t u)) (children-by-parents t c i l) ∙ ap (gives a t i) (each-child (childrenOf t i))
+  decision-by-children c i l = ap (gives a t i) (children-decide c i l)

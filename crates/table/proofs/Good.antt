@@ -1,13 +1,13 @@
--- What a node that none of refusals 4 to 8 applies to is like.
+-- What a node is like to which none of refusals 4 to 8 applies: these facts hold of it, and of no other.
 -- Assumes nothing.
-use mathlib.Core.Path.{_≡_, sym, ap, _∙_}
-use mathlib.Core.Bool.{false, not, cond, _&&_}
+use mathlib.Core.Path.{_≡_, refl, sym, ap, ap₂, _∙_}
+use mathlib.Core.Bool.{Bool, true, false, not, cond, _&&_, _||_, false≢true}
 use mathlib.Core.List.{List}
 use mathlib.Core.Logic.{⊎-elim}
 use Prim.Native.Nat.{ℕ, zero, suc, _≤_, _<_}
 use native.Mathlib.Nat.{pos-of-ne-zero, eq-zero-or-pos}
 use native.Mathlib.Omega.{arith}
-use borrow.Author.Tests.{ltb-false, eqb-true, eqb-false, not-false, le-leb, lt-leb}
+use borrow.Author.Tests.{le-ltb, ltb-false, eq-eqb, ne-eqb, eqb-true, eqb-false, not-false, le-leb, lt-leb}
 use lib.Dec.{ltb, eqb}
 use Rattle.answer.specs.Fields.{fields}
 use Rattle.answer.specs.Refusals.{None}
@@ -16,8 +16,8 @@ use Rattle.table.specs.Tree.{isRule, endOf, parent, level}
 use Rattle.table.specs.Reading.{kindFault, oddSpan, wrongEnd, spanFault, levelFault, rangeFault, rangesFault, cardFault, nodeRefusals}
 use Rattle.table.proofs.Tree.{parent-below}
 use Rattle.table.proofs.Faults.{wrong-end-root, wrong-end-child}
-use Rattle.answer.proofs.Tests.{neither}
-use Rattle.answer.proofs.Below.{none-each}
+use Rattle.answer.proofs.Tests.{lt-or-ge, neither}
+use Rattle.answer.proofs.Below.{some-none, none-each}
 
 pub record Good (t : List ℕ) (i : ℕ) : Type 0 where
   pub kinds : kind t i ≤ 5
@@ -88,6 +88,62 @@ module _ (t : List ℕ) (i : ℕ) where
         carded = card-rule cards;
         plain = card-group cards;
       }
+
+-- and a node that is so is refused nothing
+module _ (t : List ℕ) (i : ℕ) (g : Good t i) where
+  kind-passes : kindFault t i ≡ false
+  unfolding kindFault
+  kind-passes = le-ltb 5 (kind t i) (g .kinds)
+
+  end-passes : wrongEnd t i ≡ false
+  end-passes =
+      ⊎-elim
+      (λ (z : i ≡ 0). wrong-end-root t i z ∙ ap not (eq-eqb (span t i) (count t) (g .root z)))
+      (λ (l : 0 < i). wrong-end-child t i l ∙ le-ltb (endOf t (parent t i)) (endOf t i) (g .inside l))
+      (eq-zero-or-pos i)
+
+  -- of a rule, or of a group
+  module _ (rule : Bool) (e : isRule t i ≡ rule) where
+    span-passes : (rule ≡ true → span t i ≡ 1) → spanFault t i ≡ false
+    unfolding spanFault
+    span-passes one =
+        ap (λ b. oddSpan (span t i) b || wrongEnd t i) e
+        ∙ ap (λ b. (b || (rule && not (eqb (span t i) 1))) || wrongEnd t i) (ne-eqb (span t i) 0 (λ z. omega (arith, g .spans)))
+        ∙ ap (λ b. b || wrongEnd t i) (single rule one)
+        ∙ end-passes
+      where
+        single : (b : Bool) → (b ≡ true → span t i ≡ 1) → (b && not (eqb (span t i) 1)) ≡ false
+        single true h = ap not (eq-eqb (span t i) 1 (h refl))
+        single false h = refl
+
+    card-passes : cond rule (eqb (card t i) 0) (not (eqb (card t i) 0)) ≡ false → cardFault t i ≡ false
+    unfolding cardFault
+    card-passes h = ap (λ b. cond b (eqb (card t i) 0) (not (eqb (card t i) 0))) e ∙ h
+
+  level-passes : levelFault t i ≡ false
+  unfolding levelFault
+  level-passes = le-ltb 8 (level t i) (g .levels)
+
+  range-passes : (f : ℕ) → f < fields → rangeFault t i f ≡ false
+  unfolding rangeFault
+  range-passes f l = ap₂ (λ a b. a || b) (le-ltb (high t i f) (low t i f) (g .rising f l)) (le-ltb (maximum t f) (high t i f) (g .within f l))
+
+  ranges-pass : rangesFault t i ≡ false
+  unfolding rangesFault
+  ranges-pass = some-none (rangeFault t i) fields range-passes
+
+  pub good-passes : None (nodeRefusals t i)
+  good-passes =
+      ⊎-elim
+      (λ (l : kind t i < 4).
+      all false (lt-leb 4 (kind t i) l) (λ h. absurd (false≢true h)) (ap not (eq-eqb (card t i) 0 (g .plain l))))
+      (λ (l : 4 ≤ kind t i).
+      all true (le-leb 4 (kind t i) l) (λ h. g .rules l) (ne-eqb (card t i) 0 (λ z. omega (arith, g .carded l))))
+      (lt-or-ge (kind t i) 4)
+    where
+      all : (rule : Bool) → isRule t i ≡ rule → (rule ≡ true → span t i ≡ 1) → cond rule (eqb (card t i) 0) (not (eqb (card t i) 0)) ≡ false →
+          None (nodeRefusals t i)
+      all rule e one h = (kind-passes, (span-passes rule e one, (level-passes, (ranges-pass, (card-passes rule e h, tt)))))
 
 -- where all nodes below b are so, none of them ends past the last node
 module _ (t : List ℕ) (b : ℕ) (all : (i : ℕ) → i < b → Good t i) where

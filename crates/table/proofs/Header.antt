@@ -1,16 +1,17 @@
 -- What a table that none of refusals 1 to 3 applies to is like.
 -- Assumes nothing.
-use mathlib.Core.Path.{_≡_}
+use mathlib.Core.Path.{_≡_, ap, ap₂}
 use mathlib.Core.Bool.{false, not, _||_}
 use mathlib.Core.List.{List}
-use Prim.Native.Nat.{ℕ, _≤_}
+use Prim.Native.Nat.{ℕ, _+_, _≤_}
 use native.Mathlib.Nat.{pos-of-ne-zero}
-use borrow.Author.Tests.{ltb-false, eqb-true, eqb-false, not-false}
+use native.Mathlib.Omega.{arith}
+use borrow.Author.Tests.{le-ltb, ltb-false, eq-eqb, ne-eqb, eqb-true, eqb-false, not-false}
 use lib.Dec.{ltb, eqb}
 use lib.ListN.{length}
 use Rattle.answer.specs.Refusals.{None}
-use Rattle.table.specs.Layout.{count, start, HeaderHeld}
-use Rattle.table.specs.Reading.{countFault, headerRefusals}
+use Rattle.table.specs.Layout.{bytesAfter, version, count, header, start, HeaderHeld}
+use Rattle.table.specs.Reading.{lengthFault, versionFault, countFault, headerRefusals}
 use Rattle.answer.proofs.Tests.{neither}
 use Rattle.table.proofs.Faults.{length-passed}
 
@@ -32,3 +33,24 @@ module _ (t : List ℕ) where
   headed e =
       let p = count-parts (e .1 .1 .0) in
       record { long = length-passed t (e .0); records = p .2; some = p .0; few = p .1 }
+
+  -- and a header of which this holds, with the length and the version that it says, is refused nothing
+  pub headed-passes : Headed t → length t ≡ bytesAfter t + 2 → version t ≡ 1 → None (headerRefusals t)
+  unfolding lengthFault versionFault countFault
+  headed-passes h long e = (
+    ap₂ (λ a b. a || not b) (le-ltb (length t) (header t) (h .long)) (eq-eqb (length t) (bytesAfter t + 2) long),
+    (
+      ap not (eq-eqb (version t) 1 e),
+      (
+        ap₂ (λ a b. a || not b)
+            (ap₂ (λ a b. a || b) (ne-eqb (count t) 0 (λ z. omega (arith, h .some))) (le-ltb 128 (count t) (h .few)))
+            (eq-eqb (length t) (start t (count t)) (h .records)),
+        tt,
+      ),
+    ),
+  )
+
+  -- the version of such a table
+  pub headed-version : None (headerRefusals t) → version t ≡ 1
+  unfolding versionFault
+  headed-version e = eqb-true (version t) 1 (not-false _ (e .1 .0))

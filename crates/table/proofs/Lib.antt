@@ -12,3 +12,4 @@ pub mod AcceptedIsWellFormed
 pub mod ParentsAndSpansAgree
 pub mod Maxima
 pub mod RangesReadBack
+pub mod NumbersWritten
