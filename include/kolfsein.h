@@ -1,7 +1,7 @@
 /*
  * Kolfsein, a verified policy engine: reading a table of rules, ruling by its groups on one subject or on several that
- * ask together, both also by the convention profile, whose tables are XACML 2.0 as printed, building its decision
- * diagram, and ruling by a diagram.
+ * ask together, both also by the convention profile, whose tables are XACML 2.0 as printed, attaching an expansion,
+ * which is a table too, building a table's decision diagram, and ruling by a diagram.
  * For C99 and C++. Link libkolfsein.a, which itself needs only C's memcpy and memset. The repository's docs/FORMAT.md
  * describes the formats.
  *
@@ -11,6 +11,8 @@
  * - kolfsein_read to see whether a table is accepted, and which node is at fault where it is not.
  * - kolfsein_rule_standard and kolfsein_read_standard in place of these two where a table is to be XACML 2.0 as
  *   printed: they refuse what this library allows beyond it, and on all other tables they answer as those two do.
+ * - kolfsein_attach to fit an expansion to a base table: it writes one table, which rules by both. It reads the two
+ *   tables itself, and needs no kolfsein_read before it.
  * - kolfsein_build to see whether two tables rule alike on every subject alone, or to hand on these rulings in place of
  *   the table.
  * - kolfsein_look_up where a diagram is at hand and no table, for one subject. Each call checks the whole diagram, so
@@ -18,10 +20,13 @@
  *
  * Every call takes any bytes, any numbers and any values and ends. It allocates nothing, keeps nothing between calls,
  * and reads and writes only what it is lent. The caller sees to this:
- * - a pointer is valid for its length: table_len bytes to read, diagram_len numbers to read, and for kolfsein_build to
- *   read and write, cards_len numbers to read and write;
+ * - a pointer is valid for its length: base_len and expansion_len bytes to read, table_len bytes to read, and for
+ *   kolfsein_attach to read and write, diagram_len numbers to read, and for kolfsein_build to read and write, cards_len
+ *   numbers to read and write;
  * - where a length is 0 nothing is read or written there, and the pointer may be null;
- * - the list of cards overlaps neither the table nor the diagram, and a diagram to be built does not overlap the table.
+ * - the list of cards overlaps neither the table nor the diagram, a diagram to be built does not overlap the table, and
+ *   a table to be written overlaps neither the base nor the expansion. The base and the expansion may overlap, or be
+ *   the same.
  */
 #ifndef KOLFSEIN_H
 #define KOLFSEIN_H
@@ -59,14 +64,19 @@ enum {
     KOLFSEIN_VALUE = 9,             /* a value over its field's maximum; place: the first such field,
                                        0 subject (of kolfsein_look_up only), 1 resource, 2 action */
     KOLFSEIN_LIST_TOO_SHORT = 10,   /* the list is shorter than the cards; place 0 */
-    KOLFSEIN_ROOM = 11,             /* the built diagram needs over 32,768 places or more than lent; place 0 */
+    KOLFSEIN_ROOM = 11,             /* the built diagram needs over 32,768 places or more than lent, or the
+                                       attached table more bytes than lent; place 0 */
     KOLFSEIN_DIAGRAM = 12,          /* the diagram isn't sound; place 0 */
     KOLFSEIN_SUBJECTS = 13,         /* the set of subjects is empty, or has one over the subjects' maximum; place 0 */
     KOLFSEIN_MIXED_GROUP = 14,      /* by the profile: a group holds rules and groups;
                                        place: the lowest such group's node */
     KOLFSEIN_RULE_IN_ONLY_ONE = 15, /* by the profile: an only-one-applicable group holds a rule;
                                        place: the lowest such group's node */
-    KOLFSEIN_RULE_AS_ROOT = 16      /* by the profile: the root is a rule; place 0 */
+    KOLFSEIN_RULE_AS_ROOT = 16,     /* by the profile: the root is a rule; place 0 */
+    KOLFSEIN_BASE_IS_RULE = 17,     /* the base's root is a rule, so that nothing can be attached to it; place 0 */
+    KOLFSEIN_HEADERS_DIFFER = 18,   /* the base and the expansion differ in the version or in a maximum; place 0 */
+    KOLFSEIN_TOO_LARGE = 19         /* the attached table would have over 128 nodes, or, by an expansion with eight
+                                       levels, a ninth; place 0 */
 };
 
 /* No ruling has more cards than this: a list of so many places is never too short. */
@@ -74,6 +84,9 @@ enum { KOLFSEIN_MOST_CARDS = 127 };
 
 /* No sound diagram uses more places than this: so many to build in are too few only where all would be. */
 enum { KOLFSEIN_MOST_PLACES = 32768 };
+
+/* No table has more bytes than this: so many lent to attach in are never too few. */
+enum { KOLFSEIN_MOST_BYTES = 1416 };
 
 /* The set of subject k alone, for k from 0 to 63. The set of several: KOLFSEIN_SUBJECT(0) | KOLFSEIN_SUBJECT(2). */
 #define KOLFSEIN_SUBJECT(k) ((uint64_t)1 << (k))
@@ -135,6 +148,20 @@ kolfsein_answer kolfsein_read_standard(const uint8_t *table, size_t table_len);
 kolfsein_answer kolfsein_rule_standard(const uint8_t *table, size_t table_len,
                                        uint64_t subjects, uint16_t resource, uint16_t action,
                                        uint16_t *cards, size_t cards_len);
+
+/*
+ * Attaches an expansion to a base: number 0, place 0, decision 0, and as count the number of bytes written. These are
+ * one table, the base's bytes and then the expansion's records, with the length, the number of nodes and the root's
+ * span of both together, so that the expansion's root is the last child of the base's root. Every byte lent after them
+ * is 0.
+ * Otherwise the first refusal in this order: those of kolfsein_read on the base, those on the expansion, then 17, 18,
+ * 19, 11. What is lent is then all 0. 1 to 8 may be of either table, the base first: kolfsein_read tells which.
+ * By the table that is written the root combines its own children and then the expansion's root. The cards of a ruling
+ * are the base's, and then the expansion's for the subjects that meet the target of the base's root.
+ */
+kolfsein_answer kolfsein_attach(const uint8_t *base, size_t base_len,
+                                const uint8_t *expansion, size_t expansion_len,
+                                uint8_t *table, size_t table_len);
 
 /*
  * Builds the decision diagram of a table into the places lent: number 0, place 0, decision 0, and as count the number
