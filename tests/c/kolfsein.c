@@ -1,8 +1,8 @@
 /*
  * The interface as a C or a C++ program meets it, compiled from this one source as either: the header's names and
  * struct, the requirements' cases of table T, sets of subjects, groups that count and are silent, the convention
- * profile, each refusal of each call, null pointers of length 0, and what stands around what is lent. Other tables and
- * diagrams are left to the tests in Rust.
+ * profile, expansions, each refusal of each call, null pointers of length 0, and what stands around what is lent. Other
+ * tables and diagrams are left to the tests in Rust.
  */
 #include "kolfsein.h" /* first, so that it needs nothing before it */
 
@@ -30,28 +30,34 @@ static void same_answer(int line, kolfsein_answer is, kolfsein_answer should) {
     same(line, "the subjects", is.subjects, should.subjects);
 }
 
-/* A call is lent the first of these places, as many as it is to write; before and after them stand marks. */
-enum { GUARD = 4, MOST_LENT = KOLFSEIN_MOST_CARDS };
-static const uint16_t MARK = 0xA5A5;
+/* A call is lent the first of these places, or of their bytes, as many as it is to write; around them stand marks. */
+enum { GUARD = 4, MOST_LENT = KOLFSEIN_MOST_BYTES / 2 + 4, GUARD_BYTES = 2 * GUARD, MOST_LENT_BYTES = 2 * MOST_LENT };
+static const uint8_t MARK = 0xA5;
 static uint16_t guarded[GUARD + MOST_LENT + GUARD];
 static uint16_t *const lent = guarded + GUARD;
+static uint8_t *const lent_bytes = (uint8_t *)(guarded + GUARD);
 
 /* Before a call: marks throughout. */
 static void mark(void) {
-    memset(guarded, MARK & 0xFF, sizeof guarded);
+    memset(guarded, MARK, sizeof guarded);
 }
 
-/* After a call that was lent n places: the numbers counted, zeros in the other places lent, and the marks around. */
-static void holds(int line, size_t n, size_t count, const uint16_t *numbers) {
-    for (size_t i = 0; i < GUARD; i++) {
-        same(line, "a mark before what is lent", guarded[i], MARK);
+/* After a call that was lent n bytes: the bytes that it wrote, zeros in the others lent, and the marks around. */
+static void holds_bytes(int line, size_t n, size_t count, const uint8_t *bytes) {
+    for (size_t i = 0; i < GUARD_BYTES; i++) {
+        same(line, "a mark before what is lent", (lent_bytes - GUARD_BYTES)[i], MARK);
     }
     for (size_t i = 0; i < n; i++) {
-        same(line, "a place lent", lent[i], i < count ? numbers[i] : 0);
+        same(line, "a byte lent", lent_bytes[i], i < count ? bytes[i] : 0);
     }
-    for (size_t i = n; i < MOST_LENT + GUARD; i++) {
-        same(line, "a mark after what is lent", lent[i], MARK);
+    for (size_t i = n; i < MOST_LENT_BYTES + GUARD_BYTES; i++) {
+        same(line, "a mark after what is lent", lent_bytes[i], MARK);
     }
+}
+
+/* The same of places that hold numbers. */
+static void holds(int line, size_t n, size_t count, const uint16_t *numbers) {
+    holds_bytes(line, n * sizeof *numbers, count * sizeof *numbers, (const uint8_t *)numbers);
 }
 
 /* After a call: what it only reads is as it was. */
@@ -62,15 +68,20 @@ static void unchanged(int line, const void *is, const void *was, size_t size) {
 /* Where the record of a node starts, which is where a table of so many nodes ends. */
 #define START(node) (8 + 11 * (node))
 
-/* The requirements' table T. */
-static const uint8_t T[] = {
-    0x00, 0x3D, 0x01, 0x02, 0x01, 0x01, 0x00, 0x05,
-    0x03, 0x00, 0x05, 0x00, 0x00, 0x00, 0x02, 0x00, 0x01, 0x00, 0x01,
-    0x04, 0x00, 0x01, 0x00, 0x0A, 0x00, 0x02, 0x00, 0x01, 0x00, 0x00,
-    0x05, 0x00, 0x01, 0x00, 0x14, 0x02, 0x02, 0x00, 0x00, 0x00, 0x00,
-    0x00, 0x00, 0x02, 0x00, 0x00, 0x01, 0x01, 0x00, 0x01, 0x01, 0x01,
-    0x04, 0x00, 0x01, 0x00, 0x1E, 0x00, 0x02, 0x01, 0x01, 0x00, 0x01,
+struct table {
+    uint8_t bytes[KOLFSEIN_MOST_BYTES];
+    size_t len;
 };
+
+/* The requirements' table T. */
+static const struct table T = {
+    {0x00, 0x3D, 0x01, 0x02, 0x01, 0x01, 0x00, 0x05,
+     0x03, 0x00, 0x05, 0x00, 0x00, 0x00, 0x02, 0x00, 0x01, 0x00, 0x01,
+     0x04, 0x00, 0x01, 0x00, 0x0A, 0x00, 0x02, 0x00, 0x01, 0x00, 0x00,
+     0x05, 0x00, 0x01, 0x00, 0x14, 0x02, 0x02, 0x00, 0x00, 0x00, 0x00,
+     0x00, 0x00, 0x02, 0x00, 0x00, 0x01, 0x01, 0x00, 0x01, 0x01, 0x01,
+     0x04, 0x00, 0x01, 0x00, 0x1E, 0x00, 0x02, 0x01, 0x01, 0x00, 0x01},
+    START(5)};
 
 /* T's diagram, each entry after the place where it starts. */
 static const uint16_t DIAGRAM[] = {
@@ -88,28 +99,27 @@ static const uint16_t DIAGRAM[] = {
     /* 55 */ 1, 3, 0, 18, 1, 32, 2, 49,
 };
 
-struct table {
-    uint8_t bytes[START(9)];
-    size_t len;
-};
-
 struct diagram {
     uint16_t numbers[COUNT(DIAGRAM)];
 };
 
-/* T with another byte at a place. */
-static struct table t_with(size_t at, uint8_t byte) {
-    struct table t = {{0}, sizeof T};
-    memcpy(t.bytes, T, sizeof T);
+/* One rule to permit, card 7, for everything that T speaks of. */
+static const struct table ONE_RULE = {
+    {0, START(1) - 2, 1, 2, 1, 1, 0, 1, 4, 0, 1, 0, 7, 0, 2, 0, 1, 0, 1}, START(1)};
+
+/* A table with another byte at a place. */
+static struct table with(struct table t, size_t at, uint8_t byte) {
     t.bytes[at] = byte;
     return t;
 }
 
-/* Nine groups, each in the one before. */
-static struct table nine_levels(void) {
-    struct table t = {{0, START(9) - 2, 1, 0, 0, 0, 0, 9}, START(9)};
-    for (size_t node = 0; node < 9; node++) {
-        t.bytes[START(node) + 2] = (uint8_t)(9 - node);
+/* So many groups with T's maxima: each in the one before, and on the last of so many levels all that are left. */
+static struct table groups(size_t nodes, size_t levels) {
+    const size_t after = START(nodes) - 2;
+    struct table t = {
+        {(uint8_t)(after >> 8), (uint8_t)(after & 0xFF), 1, 2, 1, 1, 0, (uint8_t)nodes}, START(nodes)};
+    for (size_t node = 0; node < nodes; node++) {
+        t.bytes[START(node) + 2] = (uint8_t)(node + 1 < levels ? nodes - node : 1);
     }
     return t;
 }
@@ -196,6 +206,20 @@ static void looks_up(struct diagram d, const struct asked *a) {
     unchanged(a->line, d.numbers, was.numbers, sizeof d.numbers);
 }
 
+/* What is attached, into so many bytes. */
+static void attaches_into(int line, struct table base, struct table expansion, size_t room, kolfsein_answer should,
+                          const uint8_t *bytes) {
+    const struct table base_was = base;
+    const struct table expansion_was = expansion;
+    mark();
+    kolfsein_answer is =
+        kolfsein_attach(base.bytes, base.len, expansion.bytes, expansion.len, lent_bytes, room);
+    same_answer(line, is, should);
+    holds_bytes(line, room, should.count, bytes);
+    unchanged(line, base.bytes, base_was.bytes, sizeof base.bytes);
+    unchanged(line, expansion.bytes, expansion_was.bytes, sizeof expansion.bytes);
+}
+
 #define NAMED(name, number) same(__LINE__, #name, name, number)
 
 /* Each name of the header has the requirements' number. */
@@ -221,8 +245,12 @@ static void names(void) {
     NAMED(KOLFSEIN_MIXED_GROUP, 14);
     NAMED(KOLFSEIN_RULE_IN_ONLY_ONE, 15);
     NAMED(KOLFSEIN_RULE_AS_ROOT, 16);
+    NAMED(KOLFSEIN_BASE_IS_RULE, 17);
+    NAMED(KOLFSEIN_HEADERS_DIFFER, 18);
+    NAMED(KOLFSEIN_TOO_LARGE, 19);
     NAMED(KOLFSEIN_MOST_CARDS, 127);
     NAMED(KOLFSEIN_MOST_PLACES, 32768);
+    NAMED(KOLFSEIN_MOST_BYTES, 1416);
     NAMED(KOLFSEIN_SUBJECT(0), 1);
     NAMED(KOLFSEIN_SUBJECT(31), 0x80000000);
     NAMED(KOLFSEIN_SUBJECT(32), 0x100000000);
@@ -297,22 +325,21 @@ static const kolfsein_answer BUILT = {KOLFSEIN_OK, 0, 0, 63, 0};
 static const kolfsein_answer NO_ROOM = {KOLFSEIN_ROOM, 0, 0, 0, 0};
 
 static void cases_of_t(void) {
-    const struct table t = t_with(0, T[0]);               /* T itself */
-    const struct diagram d = diagram_with(0, DIAGRAM[0]); /* and its diagram */
-    reads(__LINE__, t, READ);
-    builds(__LINE__, t, 62, NO_ROOM, NULL);
-    builds(__LINE__, t, 63, BUILT, DIAGRAM);
-    builds(__LINE__, t, MOST_LENT, BUILT, DIAGRAM);
+    const struct diagram d = diagram_with(0, DIAGRAM[0]); /* T's diagram itself */
+    reads(__LINE__, T, READ);
+    builds(__LINE__, T, 62, NO_ROOM, NULL);
+    builds(__LINE__, T, 63, BUILT, DIAGRAM);
+    builds(__LINE__, T, MOST_LENT, BUILT, DIAGRAM);
     for (size_t i = 0; i < COUNT(OF_T); i++) {
         const struct asked_together set = alone(&OF_T[i]);
-        rules(t, &set);
+        rules(T, &set);
         looks_up(d, &OF_T[i]);
     }
     for (size_t i = 0; i < COUNT(OF_DIAGRAM); i++) {
         looks_up(d, &OF_DIAGRAM[i]);
     }
     for (size_t i = 0; i < COUNT(OF_GROUPS); i++) {
-        rules(t, &OF_GROUPS[i]);
+        rules(T, &OF_GROUPS[i]);
     }
 }
 
@@ -320,7 +347,7 @@ static void cases_of_t(void) {
 static void root_of_kind(int line, uint8_t kind, uint8_t decision) {
     const struct asked a = {line, 2, 0, 0, 3, {KOLFSEIN_OK, decision, 0, 2, 0}, {10, 20}};
     const struct asked_together set = alone(&a);
-    const struct table t = t_with(START(0), kind);
+    const struct table t = with(T, START(0), kind);
     const struct diagram d = diagram_with(39, decision);
     rules(t, &set);
     builds(line, t, 63, BUILT, d.numbers);
@@ -331,7 +358,7 @@ static void root_of_kind(int line, uint8_t kind, uint8_t decision) {
 static void by_itself(void) {
     static const struct asked_together each_target_met = {
         __LINE__, CAPTAIN | SMUGGLER, 1, 1, 1, {KOLFSEIN_OK, KOLFSEIN_NOT_APPLICABLE, 0, 0, 2}, {0, 0}};
-    rules(t_with(START(4) + 5, 2), &each_target_met);
+    rules(with(T, START(4) + 5, 2), &each_target_met);
 }
 
 /* One rule to permit: card 7, for subject 63, where the greatest subject is 255. */
@@ -512,24 +539,164 @@ static const struct table BOTH_FAULTS = {
 
 /* Tables that the profile refuses, and no other call. */
 static void refusals_by_profile(void) {
-    static const struct table one_rule = {
-        {0, START(1) - 2, 1, 2, 1, 1, 0, 1, 4, 0, 1, 0, 7, 0, 2, 0, 1, 0, 1}, START(1)};
     struct table only_one = SORTED;
     struct table only_ones = BOTH_FAULTS;
     only_one.bytes[START(4)] = 1;
     only_ones.bytes[START(3)] = 1;     /* node 3 is such a group too, */
     only_ones.bytes[START(5)] = 5;     /* and holds rules alone */
     only_ones.bytes[START(5) + 4] = 7;
-    refuses_by_profile_alone(__LINE__, t_with(0, T[0]), 5, KOLFSEIN_MIXED_GROUP, 0);
+    refuses_by_profile_alone(__LINE__, T, 5, KOLFSEIN_MIXED_GROUP, 0);
     refuses_by_profile_alone(__LINE__, BOTH_FAULTS, 6, KOLFSEIN_MIXED_GROUP, 3);
     refuses_by_profile_alone(__LINE__, only_one, 6, KOLFSEIN_RULE_IN_ONLY_ONE, 4);
     refuses_by_profile_alone(__LINE__, only_ones, 6, KOLFSEIN_RULE_IN_ONLY_ONE, 1);
-    refuses_by_profile_alone(__LINE__, one_rule, 1, KOLFSEIN_RULE_AS_ROOT, 0);
+    refuses_by_profile_alone(__LINE__, ONE_RULE, 1, KOLFSEIN_RULE_AS_ROOT, 0);
+}
+
+/* An expansion of T: a permit-overrides group for attacks over a rule to deny, card 40, for captain and smuggler. */
+static const struct table EXPANSION = {
+    {0, START(2) - 2, 1, 2, 1, 1, 0, 2,
+     2, 0, 2, 0, 0, 0, 2, 0, 1, 1, 1,
+     5, 0, 1, 0, 40, 1, 2, 0, 1, 0, 1},
+    START(2)};
+
+/* T with it. */
+static const struct table T_EXPANDED = {
+    {0x00, 0x53, 0x01, 0x02, 0x01, 0x01, 0x00, 0x07,
+     0x03, 0x00, 0x07, 0x00, 0x00, 0x00, 0x02, 0x00, 0x01, 0x00, 0x01,
+     0x04, 0x00, 0x01, 0x00, 0x0A, 0x00, 0x02, 0x00, 0x01, 0x00, 0x00,
+     0x05, 0x00, 0x01, 0x00, 0x14, 0x02, 0x02, 0x00, 0x00, 0x00, 0x00,
+     0x00, 0x00, 0x02, 0x00, 0x00, 0x01, 0x01, 0x00, 0x01, 0x01, 0x01,
+     0x04, 0x00, 0x01, 0x00, 0x1E, 0x00, 0x02, 0x01, 0x01, 0x00, 0x01,
+     0x02, 0x00, 0x02, 0x00, 0x00, 0x00, 0x02, 0x00, 0x01, 0x01, 0x01,
+     0x05, 0x00, 0x01, 0x00, 0x28, 0x01, 0x02, 0x00, 0x01, 0x00, 0x01},
+    START(7)};
+
+/* An empty group with a rule as its expansion. */
+static const struct table GROUP_AND_RULE = {
+    {0, START(2) - 2, 1, 2, 1, 1, 0, 2,
+     0, 0, 2, 0, 0, 0, 0, 0, 0, 0, 0,
+     4, 0, 1, 0, 7, 0, 2, 0, 1, 0, 1},
+    START(2)};
+
+/* Eight groups, each in the one before, with one group as their expansion. */
+static struct table deep_first(void) {
+    struct table t = groups(9, 9);
+    for (size_t node = 1; node < 8; node++) {
+        t.bytes[START(node) + 2]--;
+    }
+    return t;
+}
+
+/* T with itself as its expansion. */
+static struct table t_twice(void) {
+    struct table t = T;
+    memcpy(t.bytes + START(5), T.bytes + START(0), START(5) - START(0));
+    t.bytes[1] = START(10) - 2;
+    t.bytes[7] = 10;
+    t.bytes[START(0) + 2] = 10;
+    t.len = START(10);
+    return t;
+}
+
+/* A base and an expansion that make a table, wherever the bytes lent are enough for it. */
+static void attaches(int line, struct table base, struct table expansion, struct table whole) {
+    const kolfsein_answer written = {KOLFSEIN_OK, 0, 0, whole.len, 0};
+    attaches_into(line, base, expansion, 0, NO_ROOM, NULL);
+    attaches_into(line, base, expansion, whole.len - 1, NO_ROOM, NULL);
+    attaches_into(line, base, expansion, whole.len, written, whole.bytes);
+    attaches_into(line, base, expansion, KOLFSEIN_MOST_BYTES, written, whole.bytes);
+    attaches_into(line, base, expansion, MOST_LENT_BYTES, written, whole.bytes);
+}
+
+/* What is attached, up to 128 nodes and 8 levels. */
+static void attached(void) {
+    static const kolfsein_answer written = {KOLFSEIN_OK, 0, 0, START(10), 0};
+    const struct table twice = t_twice();
+    attaches(__LINE__, T, EXPANSION, T_EXPANDED);
+    attaches(__LINE__, T, T, twice);
+    attaches(__LINE__, groups(1, 1), ONE_RULE, GROUP_AND_RULE);
+    attaches(__LINE__, groups(127, 2), groups(1, 1), groups(128, 2));
+    attaches(__LINE__, groups(1, 1), groups(127, 7), groups(128, 8));
+    attaches(__LINE__, groups(8, 8), groups(1, 1), deep_first());
+    mark();
+    kolfsein_answer is = kolfsein_attach(T.bytes, T.len, T.bytes, T.len, lent_bytes, twice.len); /* the same bytes */
+    same_answer(__LINE__, is, written);
+    holds_bytes(__LINE__, twice.len, twice.len, twice.bytes);
+}
+
+/* Rules by a base with the expansion of T. */
+static void rules_expanded(struct table base, const struct asked_together *a) {
+    struct table t = {{0}, 0};
+    t.len = kolfsein_attach(base.bytes, base.len, EXPANSION.bytes, EXPANSION.len, t.bytes, sizeof t.bytes).count;
+    rules(t, a);
+}
+
+/*
+ * The root combines its own children and then the expansion's root, and gives the base's cards and then the
+ * expansion's; where its target fails, the expansion is silent too.
+ */
+static void rulings_by_attached(void) {
+    static const struct asked_together of_t[] = {
+        {__LINE__, SCOUT, 0, 0, 2, {KOLFSEIN_OK, KOLFSEIN_PERMIT, 0, 1, 1}, {10, 0}},
+        {__LINE__, SCOUT, 0, 1, 2, {KOLFSEIN_OK, KOLFSEIN_NOT_APPLICABLE, 0, 0, 1}, {0, 0}},
+        {__LINE__, SMUGGLER, 0, 0, 2, {KOLFSEIN_OK, KOLFSEIN_DENY, 0, 2, 1}, {10, 20}},
+        {__LINE__, SMUGGLER, 0, 1, 2, {KOLFSEIN_OK, KOLFSEIN_DENY, 0, 1, 1}, {40, 0}},
+        {__LINE__, CAPTAIN, 1, 1, 2, {KOLFSEIN_OK, KOLFSEIN_DENY, 0, 2, 1}, {30, 40}},
+        {__LINE__, SCOUT | SMUGGLER, 1, 1, 2, {KOLFSEIN_OK, KOLFSEIN_DENY, 0, 1, 2}, {40, 0}},
+    };
+    static const struct asked_together of_first_applicable = {
+        __LINE__, CAPTAIN, 1, 1, 2, {KOLFSEIN_OK, KOLFSEIN_PERMIT, 0, 2, 1}, {30, 40}};
+    static const struct asked_together of_only_one = {
+        __LINE__, CAPTAIN, 1, 1, 2, {KOLFSEIN_OK, KOLFSEIN_INDETERMINATE, 0, 2, 1}, {30, 40}};
+    static const struct asked_together without_smuggler[] = {
+        {__LINE__, SMUGGLER, 0, 1, 2, {KOLFSEIN_OK, KOLFSEIN_NOT_APPLICABLE, 0, 0, 1}, {0, 0}},
+        {__LINE__, SCOUT | SMUGGLER, 0, 1, 2, {KOLFSEIN_OK, KOLFSEIN_NOT_APPLICABLE, 0, 0, 2}, {0, 0}},
+        {__LINE__, CAPTAIN | SMUGGLER, 0, 1, 2, {KOLFSEIN_OK, KOLFSEIN_DENY, 0, 1, 2}, {40, 0}},
+    };
+    for (size_t i = 0; i < COUNT(of_t); i++) {
+        rules_expanded(T, &of_t[i]);
+    }
+    rules_expanded(with(T, START(0), 0), &of_first_applicable);
+    rules_expanded(with(T, START(0), 1), &of_only_one);
+    for (size_t i = 0; i < COUNT(without_smuggler); i++) {
+        rules_expanded(with(T, START(0) + 6, 1), &without_smuggler[i]);
+    }
+}
+
+/* A base and an expansion that are refused, whether or not the bytes lent are too few as well. */
+static void refuses_to_attach(int line, struct table base, struct table expansion, uint8_t number, size_t place) {
+    const kolfsein_answer should = {number, 0, place, 0, 0};
+    attaches_into(line, base, expansion, 0, should, NULL);
+    attaches_into(line, base, expansion, START(1), should, NULL);
+    attaches_into(line, base, expansion, KOLFSEIN_MOST_BYTES, should, NULL);
+}
+
+/* Refusals of two tables that are accepted, each alone and before those that come after it. */
+static void refusals_to_attach(void) {
+    const struct table rule_on_level_8 = with(with(groups(8, 8), START(7), 4), START(7) + 4, 7);
+    refuses_to_attach(__LINE__, ONE_RULE, EXPANSION, KOLFSEIN_BASE_IS_RULE, 0);
+    refuses_to_attach(__LINE__, with(ONE_RULE, START(0), 5), EXPANSION, KOLFSEIN_BASE_IS_RULE, 0);
+    refuses_to_attach(__LINE__, with(ONE_RULE, 3, 3), EXPANSION, KOLFSEIN_BASE_IS_RULE, 0);
+    refuses_to_attach(__LINE__, ONE_RULE, groups(128, 8), KOLFSEIN_BASE_IS_RULE, 0);
+    for (size_t field = 0; field < 3; field++) {
+        const size_t at = 3 + field;
+        const uint8_t more = (uint8_t)(T.bytes[at] + 1);
+        refuses_to_attach(__LINE__, T, with(EXPANSION, at, more), KOLFSEIN_HEADERS_DIFFER, 0);
+        refuses_to_attach(__LINE__, with(T, at, more), EXPANSION, KOLFSEIN_HEADERS_DIFFER, 0);
+        refuses_to_attach(__LINE__, T, with(groups(128, 8), at, more), KOLFSEIN_HEADERS_DIFFER, 0);
+    }
+    refuses_to_attach(__LINE__, groups(128, 2), groups(1, 1), KOLFSEIN_TOO_LARGE, 0);
+    refuses_to_attach(__LINE__, groups(1, 1), groups(128, 2), KOLFSEIN_TOO_LARGE, 0);
+    refuses_to_attach(__LINE__, groups(128, 2), groups(128, 2), KOLFSEIN_TOO_LARGE, 0);
+    refuses_to_attach(__LINE__, groups(1, 1), groups(8, 8), KOLFSEIN_TOO_LARGE, 0);
+    refuses_to_attach(__LINE__, groups(1, 1), rule_on_level_8, KOLFSEIN_TOO_LARGE, 0);
+    refuses_to_attach(__LINE__, groups(1, 1), deep_first(), KOLFSEIN_TOO_LARGE, 0);
 }
 
 /*
  * A table that each call refuses, whether or not the set that is asked has a fault too; those by the profile before
- * they see that a group of T's is mixed.
+ * they see that a group of T's is mixed. As a base it is refused before an expansion with a fault, and as an expansion
+ * before a base that is a rule with another maximum.
  */
 static void refuses(int line, struct table t, uint8_t number, size_t place) {
     const kolfsein_answer should = {number, 0, place, 0, 0};
@@ -542,19 +709,23 @@ static void refuses(int line, struct table t, uint8_t number, size_t place) {
     rules(t, &sets[1]);
     refuses_by_profile(line, t, number, place);
     builds(line, t, 63, should, NULL);
+    refuses_to_attach(line, t, EXPANSION, number, place);
+    refuses_to_attach(line, t, with(EXPANSION, 1, 0), number, place);
+    refuses_to_attach(line, T, t, number, place);
+    refuses_to_attach(line, with(ONE_RULE, 3, 3), t, number, place);
 }
 
 /* The refusals of a table and of a diagram. */
 static void refusals(void) {
     static const struct asked unsound = {__LINE__, 2, 0, 0, 3, {KOLFSEIN_DIAGRAM, 0, 0, 0, 0}, {0, 0}};
-    refuses(__LINE__, t_with(1, 62), KOLFSEIN_LENGTH, 0);
-    refuses(__LINE__, t_with(2, 2), KOLFSEIN_VERSION, 0);
-    refuses(__LINE__, t_with(7, 6), KOLFSEIN_NODE_COUNT, 0);
-    refuses(__LINE__, t_with(START(2), 6), KOLFSEIN_KIND, 2);
-    refuses(__LINE__, t_with(START(4) + 2, 2), KOLFSEIN_SPAN, 4);
-    refuses(__LINE__, nine_levels(), KOLFSEIN_LEVEL, 8);
-    refuses(__LINE__, t_with(START(3) + 6, 3), KOLFSEIN_RANGE, 3);
-    refuses(__LINE__, t_with(START(1) + 4, 0), KOLFSEIN_CARD, 1);
+    refuses(__LINE__, with(T, 1, 62), KOLFSEIN_LENGTH, 0);
+    refuses(__LINE__, with(T, 2, 2), KOLFSEIN_VERSION, 0);
+    refuses(__LINE__, with(T, 7, 6), KOLFSEIN_NODE_COUNT, 0);
+    refuses(__LINE__, with(T, START(2), 6), KOLFSEIN_KIND, 2);
+    refuses(__LINE__, with(T, START(4) + 2, 2), KOLFSEIN_SPAN, 4);
+    refuses(__LINE__, groups(9, 9), KOLFSEIN_LEVEL, 8);
+    refuses(__LINE__, with(T, START(3) + 6, 3), KOLFSEIN_RANGE, 3);
+    refuses(__LINE__, with(T, START(1) + 4, 0), KOLFSEIN_CARD, 1);
     looks_up(diagram_with(1, 49), &unsound); /* the root at a node of level 2 */
 }
 
@@ -581,15 +752,27 @@ static void null_pointers(void) {
     same_answer(__LINE__, is, no_table);
     holds(__LINE__, 63, 0, NULL);
     mark();
+    is = kolfsein_attach(NULL, 0, EXPANSION.bytes, EXPANSION.len, lent_bytes, T_EXPANDED.len);
+    same_answer(__LINE__, is, no_table);
+    holds_bytes(__LINE__, T_EXPANDED.len, 0, NULL);
+    mark();
+    is = kolfsein_attach(T.bytes, T.len, NULL, 0, lent_bytes, T_EXPANDED.len);
+    same_answer(__LINE__, is, no_table);
+    holds_bytes(__LINE__, T_EXPANDED.len, 0, NULL);
+    mark();
     is = kolfsein_look_up(NULL, 0, 0, 0, 0, lent, 3);
     same_answer(__LINE__, is, no_diagram);
     holds(__LINE__, 3, 0, NULL);
-    is = kolfsein_rule(T, sizeof T, KOLFSEIN_SUBJECT(2), 0, 1, NULL, 0);
+    is = kolfsein_rule(T.bytes, T.len, KOLFSEIN_SUBJECT(2), 0, 1, NULL, 0);
     same_answer(__LINE__, is, ruled);
     is = kolfsein_rule_standard(SORTED.bytes, SORTED.len, KOLFSEIN_SUBJECT(2), 0, 1, NULL, 0);
     same_answer(__LINE__, is, ruled);
-    is = kolfsein_build(T, sizeof T, NULL, 0);
+    is = kolfsein_build(T.bytes, T.len, NULL, 0);
     same_answer(__LINE__, is, NO_ROOM);
+    is = kolfsein_attach(T.bytes, T.len, EXPANSION.bytes, EXPANSION.len, NULL, 0);
+    same_answer(__LINE__, is, NO_ROOM);
+    is = kolfsein_attach(NULL, 0, NULL, 0, NULL, 0);
+    same_answer(__LINE__, is, no_table);
     is = kolfsein_look_up(DIAGRAM, COUNT(DIAGRAM), 2, 0, 1, NULL, 0);
     same_answer(__LINE__, is, looked_up);
 }
@@ -606,6 +789,9 @@ int main(void) {
     silent_groups();
     accepted_by_profile();
     refusals_by_profile();
+    attached();
+    rulings_by_attached();
+    refusals_to_attach();
     refusals();
     null_pointers();
     printf("%lu checks, %lu failures\n", checks, failures);
