@@ -23,6 +23,7 @@ using Sizes = std::array<unsigned, 3>;
 // The calls that are compared, by pointer: none is inlined where it is timed.
 using Read = decltype(&kolfsein_read);
 using Rule = decltype(&kolfsein_rule);
+using Attach = decltype(&kolfsein_attach);
 using LookUp = decltype(&kolfsein_look_up);
 using Build = decltype(&kolfsein_build);
 
@@ -45,7 +46,8 @@ inline bool same(const kolfsein_answer &a, const kolfsein_answer &b) {
            a.subjects == b.subjects;
 }
 
-inline bool same(const Numbers &a, const Numbers &b) {
+template <class Number>
+bool same(const std::vector<Number> &a, const std::vector<Number> &b) {
     return a.size() == b.size() && std::memcmp(a.data(), b.data(), a.size() * sizeof a[0]) == 0;
 }
 
@@ -127,6 +129,20 @@ timing::Candidate asking(Call call, const Input &input, const std::vector<Reques
     };
     return {batch, requests.size(), {}};
 }
+
+// Many calls that are all the same.
+template <class Call>
+timing::Candidate repeating(Call call) {
+    constexpr size_t CALLS = 1000;
+    const auto batch = [call] {
+        for (size_t i = 0; i < CALLS; ++i) {
+            sink += call().count;
+        }
+    };
+    return {batch, CALLS, {}};
+}
+
+inline kolfsein_answer read(Read call, const tables::Bytes &table) { return call(table.data(), table.size()); }
 
 inline kolfsein_answer build(Build call, const Table &table, Numbers &diagram) {
     return call(table.bytes.data(), table.bytes.size(), diagram.data(), diagram.size());

@@ -17,6 +17,7 @@ struct Section {
 const Section SECTIONS[] = {
     {"rule", rule_section},
     {"standard", standard_section},
+    {"attach", attach_section},
     {"build", build_section},
     {"growth", growth_section},
     {"look-up", look_up_section},
@@ -36,7 +37,8 @@ bool known(const char *name) {
 int main(int count, char **arguments) {
     for (int i = 1; i < count; ++i) {
         if (!known(arguments[i])) {
-            fail(std::string("no section ") + arguments[i] + "; there are rule, standard, build, growth, look-up");
+            fail(std::string("no section ") + arguments[i] +
+                 "; there are rule, standard, attach, build, growth, look-up");
         }
     }
     for (const Section &section : SECTIONS) {

@@ -2,12 +2,12 @@
 #pragma once
 
 #include <algorithm>
-#include <array>
 #include <cstddef>
 #include <cstdint>
 #include <vector>
 
 #include "common.hpp"
+#include "damage.hpp"
 
 // The tables that rulings are timed on.
 inline std::vector<Table> ruled_tables() {
@@ -42,11 +42,6 @@ inline kolfsein_answer agreed(const std::vector<Rule> &calls, const tables::Byte
     return answer;
 }
 
-// How often each number is answered, 0 or a refusal's.
-using Answered = std::array<size_t, KOLFSEIN_RULE_AS_ROOT + 1>;
-
-using Damage = void (*)(tables::Random &, tables::Bytes &);
-
 // The same on refusals: tables that were damaged, any subjects and values, and lists of any length.
 inline Answered agreed_on_damaged(const std::vector<Rule> &calls, const Table &table, Damage damage) {
     tables::Random random(11);
@@ -58,9 +53,4 @@ inline Answered agreed_on_damaged(const std::vector<Rule> &calls, const Table &t
         ++answered[agreed(calls, damaged, request, random.below(16)).number];
     }
     return answered;
-}
-
-// One byte becomes any.
-inline void change_byte(tables::Random &random, tables::Bytes &bytes) {
-    bytes[random.below(static_cast<unsigned>(bytes.size()))] = static_cast<uint8_t>(random.below(256));
 }

@@ -3,6 +3,7 @@
 #include <vector>
 
 #include "common.hpp"
+#include "damage.hpp"
 #include "rulings.hpp"
 #include "sections.hpp"
 
@@ -17,23 +18,6 @@ const std::vector<Rule> BY_PROFILE = {kolfsein_rule_standard, plain::rule_standa
 // On a table of the profile these agree with the plain calls.
 const std::vector<Rule> ALL = {kolfsein_rule_standard, plain::rule_standard, kolfsein_rule, plain::rule};
 
-// One node becomes a rule or a group of any kind, with a card that is right for it, or takes another span. The table is
-// then often accepted without the profile.
-void change_node(tables::Random &random, tables::Bytes &bytes) {
-    const unsigned nodes = bytes[6] * 256u + bytes[7];
-    uint8_t *record = &bytes[plain::HEADER + plain::RECORD * random.below(nodes)];
-    if (random.below(2) == 0) {
-        record[2] = static_cast<uint8_t>(1 + random.below(4));
-        return;
-    }
-    record[0] = static_cast<uint8_t>(random.below(6));
-    record[3] = 0;
-    record[4] = record[0] < 4 ? 0 : 7;
-}
-
-// A rule as the root.
-Table one_rule() { return {"one rule", {0, 17, 1, 63, 31, 15, 0, 1, 4, 0, 1, 0, 7, 0, 63, 0, 31, 0, 15}}; }
-
 // The calls must agree on refusals too, each of which has to be met where it can be.
 void expect_refusals(const Table &table) {
     agreed_on_damaged(BY_PROFILE, table, change_byte);
@@ -41,8 +25,6 @@ void expect_refusals(const Table &table) {
     expect(answered[KOLFSEIN_MIXED_GROUP] > 0, "how often a mixed group is met");
     expect(answered[KOLFSEIN_RULE_IN_ONLY_ONE] > 0, "how often a rule in an only-one group is met");
 }
-
-kolfsein_answer read(Read call, const tables::Bytes &table) { return call(table.data(), table.size()); }
 
 void expect_reading(const Table &table) {
     tables::Random random(13);
@@ -59,13 +41,7 @@ void expect_reading(const Table &table) {
 }
 
 timing::Candidate reading(Read call, const tables::Bytes &table) {
-    constexpr size_t CALLS = 1000;
-    const auto batch = [call, &table] {
-        for (size_t i = 0; i < CALLS; ++i) {
-            sink += read(call, table).count;
-        }
-    };
-    return {batch, CALLS, {}};
+    return repeating([call, &table] { return read(call, table); });
 }
 
 void print_ruling(const Table &table, unsigned subjects) {

@@ -1,4 +1,4 @@
-// Reading, ruling, both also by the profile, and looking up in plain C++.
+// Reading, ruling, both also by the profile, attaching, and looking up in plain C++.
 #include "plain/plain.hpp"
 
 #include <cstring>
@@ -69,6 +69,22 @@ struct Profile {
     }
 };
 
+// What a reading of an expansion keeps: whether some node is on the last level, and so too deep once it is attached.
+struct Expansion {
+    bool last_level = false;
+
+    explicit Expansion(const uint8_t *) {}
+
+    void see(size_t level, size_t, const uint8_t *, bool) { last_level |= level == LEVELS - 1; }
+
+    kolfsein_answer settled(const uint8_t *, size_t nodes) const {
+        if (last_level) {
+            return refused(KOLFSEIN_TOO_LARGE, 0);
+        }
+        return {KOLFSEIN_OK, 0, 0, nodes, 0};
+    }
+};
+
 // Reads a table: refusals 1 to 8, then those of what is kept of its nodes, or the number of nodes.
 template <class Kept>
 inline kolfsein_answer read_keeping(const uint8_t *table, size_t length) {
@@ -126,6 +142,45 @@ inline kolfsein_answer read_keeping(const uint8_t *table, size_t length) {
 kolfsein_answer read(const uint8_t *table, size_t length) { return read_keeping<Plain>(table, length); }
 
 kolfsein_answer read_standard(const uint8_t *table, size_t length) { return read_keeping<Profile>(table, length); }
+
+// Reads the base, then the expansion: refusals 17, 18, 19 and 11, or the bytes of both with zeros after them.
+kolfsein_answer attach(const uint8_t *base, size_t base_len, const uint8_t *expansion, size_t expansion_len,
+                       uint8_t *table, size_t room) {
+    const auto refuse = [&](const kolfsein_answer &refusal) {
+        std::memset(table, 0, room);
+        return refusal;
+    };
+    const kolfsein_answer of_base = read(base, base_len);
+    if (of_base.number != 0) {
+        return refuse(of_base);
+    }
+    const kolfsein_answer of_expansion = read_keeping<Expansion>(expansion, expansion_len);
+    const bool too_deep = of_expansion.number == KOLFSEIN_TOO_LARGE;
+    if (of_expansion.number != 0 && !too_deep) {
+        return refuse(of_expansion);
+    }
+    if (is_rule(base + HEADER)) {
+        return refuse(refused(KOLFSEIN_BASE_IS_RULE, 0));
+    }
+    if (std::memcmp(base + 2, expansion + 2, 1 + FIELDS) != 0) {
+        return refuse(refused(KOLFSEIN_HEADERS_DIFFER, 0));
+    }
+    const size_t nodes = of_base.count + of_expansion.count;
+    if (too_deep || nodes > MOST_NODES) {
+        return refuse(refused(KOLFSEIN_TOO_LARGE, 0));
+    }
+    const size_t length = HEADER + RECORD * nodes;
+    if (length > room) {
+        return refuse(refused(KOLFSEIN_ROOM, 0));
+    }
+    std::memcpy(table, base, base_len);
+    std::memcpy(table + base_len, expansion + HEADER, expansion_len - HEADER);
+    put_word(table, length - 2);
+    put_word(table + 6, nodes);
+    put_word(table + HEADER + 1, nodes);
+    std::memset(table + length, 0, room - length);
+    return {KOLFSEIN_OK, 0, 0, length, 0};
+}
 
 namespace {
 

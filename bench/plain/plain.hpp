@@ -37,6 +37,11 @@ inline kolfsein_answer refused(uint8_t number, size_t place) { return {number, 0
 // A number of two bytes.
 inline size_t word(const uint8_t *at) { return static_cast<size_t>(at[0]) << 8 | at[1]; }
 
+inline void put_word(uint8_t *at, size_t number) {
+    at[0] = static_cast<uint8_t>(number >> 8);
+    at[1] = static_cast<uint8_t>(number);
+}
+
 // As kolfsein_read.
 kolfsein_answer read(const uint8_t *table, size_t table_len);
 
@@ -50,6 +55,10 @@ kolfsein_answer read_standard(const uint8_t *table, size_t table_len);
 // As kolfsein_rule_standard: the table is read at each call.
 kolfsein_answer rule_standard(const uint8_t *table, size_t table_len, uint64_t subjects, uint16_t resource,
                               uint16_t action, uint16_t *cards, size_t cards_len);
+
+// As kolfsein_attach: both tables are read at each call.
+kolfsein_answer attach(const uint8_t *base, size_t base_len, const uint8_t *expansion, size_t expansion_len,
+                       uint8_t *table, size_t table_len);
 
 // As kolfsein_look_up: the diagram is checked at each call.
 kolfsein_answer look_up(const uint16_t *diagram, size_t diagram_len, uint16_t subject, uint16_t resource,
