@@ -53,10 +53,19 @@ extern "C" {
         cards: *mut u16,
         cards_len: usize,
     ) -> Answer;
+
+    pub(crate) fn kolfsein_attach(
+        base: *const u8,
+        base_len: usize,
+        expansion: *const u8,
+        expansion_len: usize,
+        table: *mut u8,
+        table_len: usize,
+    ) -> Answer;
 }
 
 impl Answer {
-    /// The count of a reading or of a build.
+    /// The count of a reading, of a build or of attaching.
     pub(crate) fn counted(self) -> Result<usize, Refusal> {
         Ok(self.accepted()?.count)
     }
@@ -110,6 +119,9 @@ impl Answer {
             14 => Reason::MixedGroup,
             15 => Reason::RuleInOnlyOne,
             16 => Reason::RuleAsRoot,
+            17 => Reason::BaseIsRule,
+            18 => Reason::HeadersDiffer,
+            19 => Reason::TooLarge,
             other => unreachable!("no refusal has number {other}"),
         };
         Err(Refusal {

@@ -2,7 +2,8 @@
 //!
 //! A table of rules in nested groups is read, ruled by for one subject or for several that ask together, or built into
 //! a decision diagram, which rules as it does on one subject at a time. The convention profile reads and rules likewise,
-//! and accepts the tables that are XACML 2.0 as printed.
+//! and accepts the tables that are XACML 2.0 as printed. An expansion is a table that is attached to another, the base;
+//! both are then one table.
 //! Each call takes any bytes, any numbers and any values and ends. It allocates nothing and keeps nothing between
 //! calls, so any thread may call; one takes up to some 67 KB of stack. The repository's docs/FORMAT.md describes the
 //! formats.
@@ -18,6 +19,8 @@
 //! - [`look_up`] for one subject, where a diagram is at hand and no table, or where the subject is over 63 and so in no
 //!   set. Each call checks the whole diagram, so it takes longer than [`rule`] unless the diagram is small for its
 //!   table; docs/PERFORMANCE.md has the figures.
+//! - [`attach`] to fit an expansion to a base. It reads both itself; the table that it writes is one for every call
+//!   above, and a base for the next expansion.
 //!
 //! ```
 //! use kolfsein::{Decision, JointRequest, Reason, Request, Subjects, MOST_CARDS, MOST_PLACES};
@@ -85,6 +88,14 @@ pub const MOST_CARDS: usize = 127;
 /// assert_eq!(diagram.len(), 32_768);
 /// ```
 pub const MOST_PLACES: usize = 32_768;
+
+/// No table has more bytes than this: so many lent to attach in are never too few.
+///
+/// ```
+/// let table = [0u8; kolfsein::MOST_BYTES];
+/// assert_eq!(table.len(), 1_416);
+/// ```
+pub const MOST_BYTES: usize = 1_416;
 
 /// A C call with the arguments of a ruling by a table. It stands in a block that says why it may be made.
 macro_rules! ruling_by_table {
@@ -329,4 +340,66 @@ pub fn look_up(diagram: &[u16], request: Request, cards: &mut [u16]) -> Result<R
         )
     };
     answer.looked_up()
+}
+
+/// Attaches an expansion to a base, which makes one table of both: how many bytes it has. The bytes lent then hold it,
+/// and 0 after it. Its nodes are the base's and then the expansion's, whose root is the last child of the base's root.
+/// The length, the number of nodes and the root's span are its own; all other bytes are copied.
+///
+/// So the base's root decides over its own children and then the expansion's root. The cards of a ruling are those of
+/// the base, and then those that the expansion gives to the members of the set that meet the target of the base's root;
+/// where none does, nothing comes from the expansion.
+///
+/// ```
+/// use kolfsein::{Decision, JointRequest, Reason, Subjects, MOST_BYTES};
+///
+/// let base = [
+///     0, 28, 1, 2, 1, 1, 0, 2, // 28 bytes follow, version 1, the maxima 2, 1 and 1, 2 nodes
+///     3, 0, 2, 0, 0, 0, 2, 0, 1, 0, 1, // deny overrides, over both
+///     4, 0, 1, 0, 10, 0, 2, 0, 1, 0, 0, // card 10: anyone may trade anywhere
+/// ];
+/// let expansion = [
+///     0, 17, 1, 2, 1, 1, 0, 1, // 17 bytes follow, version and maxima as in the base, 1 node
+///     5, 0, 1, 0, 20, 2, 2, 0, 0, 0, 0, // card 20: the smuggler may not trade at the harbour
+/// ];
+/// let mut table = [0; MOST_BYTES];
+/// let length = kolfsein::attach(&base, &expansion, &mut table)?;
+/// assert_eq!(length, 41);
+/// assert_eq!(table[..8], [0, 39, 1, 2, 1, 1, 0, 3]); // 39 bytes follow, 3 nodes
+/// assert_eq!(table[8..11], [3, 0, 3]); // deny overrides, over all three
+///
+/// // The smuggler trades at the harbour.
+/// let subjects = Subjects::only(2).unwrap();
+/// let request = JointRequest { subjects, resource: 0, action: 0 };
+/// let mut cards = [0; 3];
+/// let ruling = kolfsein::rule(&table[..length], request, &mut cards)?;
+/// assert_eq!((ruling.decision, ruling.count), (Decision::Deny, 2));
+/// assert_eq!(cards, [10, 20, 0]);
+///
+/// // A rule has no children.
+/// let refusal = kolfsein::attach(&expansion, &base, &mut table).unwrap_err();
+/// assert_eq!((refusal.reason, refusal.place), (Reason::BaseIsRule, 0));
+/// assert_eq!(table, [0; MOST_BYTES]);
+/// # Ok::<(), kolfsein::Refusal>(())
+/// ```
+///
+/// # Errors
+///
+/// The first refusal in this order: those of [`read`] for the base, those of [`read`] for the expansion, then
+/// [`BaseIsRule`](Reason::BaseIsRule), then [`HeadersDiffer`](Reason::HeadersDiffer), then
+/// [`TooLarge`](Reason::TooLarge), then [`Room`](Reason::Room). The bytes are then all 0. A refusal of [`read`] is about
+/// the expansion only where the base is accepted.
+pub fn attach(base: &[u8], expansion: &[u8], table: &mut [u8]) -> Result<usize, Refusal> {
+    // SAFETY: each slice's pointer is valid for its length, and a table that is lent to be written overlaps nothing.
+    let answer = unsafe {
+        c::kolfsein_attach(
+            base.as_ptr(),
+            base.len(),
+            expansion.as_ptr(),
+            expansion.len(),
+            table.as_mut_ptr(),
+            table.len(),
+        )
+    };
+    answer.counted()
 }

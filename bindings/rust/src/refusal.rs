@@ -3,7 +3,8 @@
 use std::error::Error;
 use std::fmt;
 
-/// What a call hands back in place of its result. The lent list, or the lent diagram, is then zeros throughout.
+/// What a call hands back in place of its result. The list, the diagram or the table lent to be written is then zeros
+/// throughout.
 ///
 /// ```
 /// use kolfsein::{Reason, Refusal};
@@ -54,7 +55,8 @@ pub enum Reason {
     Value = 9,
     /// The list is shorter than the cards.
     ListTooShort = 10,
-    /// The diagram to be built needs more places than were lent, or more than [`MOST_PLACES`](crate::MOST_PLACES).
+    /// The diagram to be built needs more places than were lent, or more than [`MOST_PLACES`](crate::MOST_PLACES), or
+    /// the table of a base and an expansion more bytes than were lent.
     Room = 11,
     /// The diagram is not sound.
     Diagram = 12,
@@ -66,6 +68,13 @@ pub enum Reason {
     RuleInOnlyOne = 15,
     /// By the convention profile: the root is a rule.
     RuleAsRoot = 16,
+    /// The root of the base is a rule, so that nothing can be attached to it.
+    BaseIsRule = 17,
+    /// The base and the expansion have different versions or maxima.
+    HeadersDiffer = 18,
+    /// The table of the base and the expansion would have over 128 nodes, or a ninth level, since the expansion has an
+    /// eighth.
+    TooLarge = 19,
 }
 
 impl fmt::Display for Refusal {
@@ -101,12 +110,17 @@ impl fmt::Display for Reason {
             Reason::Card => "a rule with card 0, or a group with another card",
             Reason::Value => "a value over its field's maximum",
             Reason::ListTooShort => "the list is shorter than the cards",
-            Reason::Room => "the diagram needs over 32,768 places or more than lent",
+            Reason::Room => {
+                "the diagram needs over 32,768 places or more than lent, or the table more bytes than lent"
+            }
             Reason::Diagram => "the diagram is not sound",
             Reason::Subjects => "the set of subjects is empty, or has one over the maximum",
             Reason::MixedGroup => "a group holds rules and groups",
             Reason::RuleInOnlyOne => "an only-one-applicable group holds a rule",
             Reason::RuleAsRoot => "the root is a rule",
+            Reason::BaseIsRule => "the root of the base is a rule",
+            Reason::HeadersDiffer => "the versions or the maxima differ",
+            Reason::TooLarge => "the table of both would have over 128 nodes or a ninth level",
         })
     }
 }

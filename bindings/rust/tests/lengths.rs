@@ -17,11 +17,13 @@ fn long_slices() {
     let joint = Joint::only(VALUES).expect("a subject of a set");
     let ruled = evaluator::rule(&table, &joint);
     let walked = evaluator::walk(&table);
+    let attached = evaluator::attach(HARBOUR, HARBOUR);
     let diagram = Due::built(&walked, MOST_PLACES).numbers;
     for length in LENGTHS {
         compare.case("length", length);
         compare.rules_with(HARBOUR, &joint, &ruled, [length]);
         compare.builds_in(HARBOUR, &walked, [length]);
+        compare.attaches_in(HARBOUR, HARBOUR, &attached, [length]);
         // a table is refused for what follows it
         let longer = [HARBOUR, &vec![0; length - HARBOUR.len()]].concat();
         let due = Due::read(&Table::read(&longer));
@@ -30,10 +32,12 @@ fn long_slices() {
         compare.reads_standard(&longer, &due);
         compare.rules_standard(&longer, &joint, 2, &due);
         compare.builds(&longer, 63, &due);
+        compare.attaches(&longer, HARBOUR, 118, &due);
+        compare.attaches(HARBOUR, &longer, 118, &due);
         // a diagram is not
         let longer = [&diagram[..], &vec![1; length - diagram.len()]].concat();
         let ruled = evaluator::look_up(&Diagram::check(&longer), VALUES);
         compare.looks_up_with(&longer, VALUES, &ruled, [2, length]);
     }
-    compare.end(390_000, [0, 1], 12);
+    compare.end(520_000, [0, 1], 20);
 }

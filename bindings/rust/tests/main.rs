@@ -1,11 +1,12 @@
-//! The library beside a separately written evaluator: every number of every answer, and of every list and diagram that
-//! is lent. `evaluator` says what tables and diagrams mean, `generator` makes them, `compare` calls and compares; the
-//! other modules say what is compared.
+//! The library beside a separately written evaluator: every number of every answer, and of every list, diagram and
+//! table that is lent. `evaluator` says what tables and diagrams mean, `generator` makes them, `compare` calls and
+//! compares; the other modules say what is compared.
 
 mod compare;
 mod evaluator;
 mod generator;
 
+mod attaching;
 mod building;
 mod lengths;
 mod looking_up;

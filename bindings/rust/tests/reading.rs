@@ -2,11 +2,12 @@
 
 use crate::compare::Compare;
 use crate::evaluator::{Due, Joint, Table, MOST_SUBJECTS, OTHERS};
-use crate::generator::{accepted_table, any_maxima, chain, damaged_table, nested};
+use crate::generator::{accepted_table, any_maxima, chain, damaged_table, nested, one_rule};
 use crate::generator::{each_length, each_place, each_span, state_length, Random, HARBOUR};
 
 /// Reads a table: whether it is accepted. Where it is not, a ruling and a build refuse it too, before an empty set or
-/// one with subjects over their maximum, a value over its maximum, a list that is too short and a room that is.
+/// one with subjects over their maximum, a value over its maximum, a list that is too short and a room that is. So does
+/// attaching, as the base before an expansion that is refused, and as the expansion before a base that is a rule.
 fn reads(compare: &mut Compare, number: usize, bytes: &[u8]) -> bool {
     compare.case("table", number);
     let table = Table::read(bytes);
@@ -19,6 +20,8 @@ fn reads(compare: &mut Compare, number: usize, bytes: &[u8]) -> bool {
         compare.rules(bytes, &joint, number % 4, &due);
         compare.rules_standard(bytes, &joint, number % 4, &due);
         compare.builds(bytes, number % 100, &due);
+        compare.attaches(bytes, &[], number % 100, &due);
+        compare.attaches(&one_rule().bytes(), bytes, number % 100, &due);
     }
     table.is_ok()
 }
@@ -35,7 +38,7 @@ fn generated_tables() {
         };
         reads(&mut compare, seed, &bytes);
     }
-    compare.end(5_700_000, (0..=8).chain([14, 15]), 3_000);
+    compare.end(12_000_000, (0..=8).chain([14, 15]), 3_000);
 }
 
 #[test]
@@ -60,5 +63,5 @@ fn small_changes() {
     let accepted = tables.filter(|(number, table)| reads(&mut compare, *number, table));
     let accepted = accepted.count();
     compare.same("the number of nestings", accepted, 34);
-    compare.end(17_000_000, (0..=8).chain([14]), 30);
+    compare.end(37_000_000, (0..=8).chain([14]), 30);
 }

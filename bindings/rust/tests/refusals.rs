@@ -2,10 +2,10 @@
 
 use std::error::Error;
 
-use kolfsein::{build, look_up, read, read_standard, rule, rule_standard};
+use kolfsein::{attach, build, look_up, read, read_standard, rule, rule_standard};
 use kolfsein::{JointRequest, Reason, Refusal, Request, Subjects};
 
-const REASONS: [Reason; 16] = [
+const REASONS: [Reason; 19] = [
     Reason::Length,
     Reason::Version,
     Reason::NodeCount,
@@ -22,6 +22,9 @@ const REASONS: [Reason; 16] = [
     Reason::MixedGroup,
     Reason::RuleInOnlyOne,
     Reason::RuleAsRoot,
+    Reason::BaseIsRule,
+    Reason::HeadersDiffer,
+    Reason::TooLarge,
 ];
 
 #[test]
@@ -74,4 +77,14 @@ fn empty_slices() {
     let mut diagram = [0; 21];
     assert_eq!(build(&one_rule, &mut diagram), Ok(21));
     assert_eq!(look_up(&diagram, request, &mut []), Err(too_short));
+    let one_group = [0, 17, 1, 0, 0, 0, 0, 1, 3, 0, 1, 0, 0, 0, 0, 0, 0, 0, 0];
+    for (base, expansion, reason) in [
+        (&[][..], &[][..], Reason::Length),
+        (&[], &one_rule, Reason::Length),
+        (&one_group, &[], Reason::Length),
+        (&one_rule, &one_rule, Reason::BaseIsRule),
+        (&one_group, &one_rule, Reason::Room),
+    ] {
+        assert_eq!(attach(base, expansion, &mut []), Err(refused(reason)));
+    }
 }

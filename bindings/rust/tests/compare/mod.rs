@@ -8,16 +8,29 @@ use kolfsein::{Decision, JointRequest, JointRuling, Reason, Refusal, Request, Su
 
 use crate::evaluator::{Due, Joint, Refused, Ruled, Values, MOST_SUBJECTS};
 
-/// What stands in lent places before a call, and around them: no 0, and seldom a card.
-const MARK: u16 = 0xA5A5;
+/// A number that is lent to be written: a place of a list or of a diagram, or a byte of a table.
+trait Number: Copy + Debug + PartialEq + Into<u16> {
+    /// What stands in lent places before a call, and around them: no 0, and seldom a number that is due.
+    const MARK: Self;
+}
+
+impl Number for u16 {
+    const MARK: u16 = 0xA5A5;
+}
+
+impl Number for u8 {
+    const MARK: u8 = 0xA5;
+}
+
+/// How many marks stand before what is lent, and how many after it.
 const AROUND: usize = 4;
 
 /// Numbers of answers, 0 or a refusal's, are below this.
-const NUMBERS: usize = 17;
+const NUMBERS: usize = 20;
 
 /// How many tests compare, and how many comparisons all of them make at least.
-const TESTS: usize = 22;
-const COMPARISONS: u64 = 625_000_000;
+const TESTS: usize = 25;
+const COMPARISONS: u64 = 770_000_000;
 
 /// What the tests that ended did.
 static ENDED: Mutex<Ended> = Mutex::new(Ended {
@@ -128,6 +141,19 @@ impl Compare {
         }
     }
 
+    /// Attaches an expansion to a base in each of some rooms.
+    pub fn attaches_in(
+        &mut self,
+        base: &[u8],
+        expansion: &[u8],
+        attached: &Result<Vec<u8>, Refused>,
+        rooms: impl IntoIterator<Item = usize>,
+    ) {
+        for bytes in rooms {
+            self.attaches(base, expansion, bytes, &Due::attached(attached, bytes));
+        }
+    }
+
     /// Rules with a list of so many places.
     pub fn rules(&mut self, bytes: &[u8], joint: &Joint, places: usize, due: &Due) {
         self.rules_by(kolfsein::rule, bytes, joint, places, due);
@@ -177,6 +203,17 @@ impl Compare {
         self.ruled(answer.map(|given| (given.decision, given.count)), due);
         self.lent(&list, due);
         self.stays(&diagram, numbers);
+    }
+
+    /// Attaches an expansion to a base in a room of so many bytes, and hands back what it then holds.
+    pub fn attaches(&mut self, base: &[u8], expansion: &[u8], bytes: usize, due: &Due) -> Vec<u8> {
+        let (table, more) = (base.to_vec(), expansion.to_vec());
+        let (answer, room) = self.lend(bytes, |room| kolfsein::attach(&table, &more, room));
+        self.counted(answer, due);
+        self.lent(&room, due);
+        self.stays(&table, base);
+        self.stays(&more, expansion);
+        room
     }
 
     /// One comparison.
@@ -260,22 +297,22 @@ impl Compare {
     }
 
     /// The numbers due, and zeros after them.
-    fn lent(&mut self, lent: &[u16], due: &Due) {
+    fn lent<T: Number>(&mut self, lent: &[T], due: &Due) {
         assert!(due.numbers.len() <= lent.len(), "more is due than was lent");
         let zeros = iter::repeat(&0);
-        for (number, due) in lent.iter().zip(due.numbers.iter().chain(zeros)) {
-            self.same("a lent number", number, due);
+        for (&number, &due) in lent.iter().zip(due.numbers.iter().chain(zeros)) {
+            self.same("a lent number", number.into(), due);
         }
     }
 
     /// Lends so many places to a call, and sees that what stands around them stays.
-    fn lend<R>(&mut self, n: usize, call: impl FnOnce(&mut [u16]) -> R) -> (R, Vec<u16>) {
-        let mut places = vec![MARK; AROUND + n + AROUND];
+    fn lend<T: Number, R>(&mut self, n: usize, call: impl FnOnce(&mut [T]) -> R) -> (R, Vec<T>) {
+        let mut places = vec![T::MARK; AROUND + n + AROUND];
         let answer = call(&mut places[AROUND..AROUND + n]);
         let after = places.split_off(AROUND + n);
         let lent = places.split_off(AROUND);
         for mark in places.into_iter().chain(after) {
-            self.same("a place around", mark, MARK);
+            self.same("a place around", mark, T::MARK);
         }
         (answer, lent)
     }
@@ -346,5 +383,8 @@ fn number(reason: Reason) -> u8 {
         Reason::MixedGroup => 14,
         Reason::RuleInOnlyOne => 15,
         Reason::RuleAsRoot => 16,
+        Reason::BaseIsRule => 17,
+        Reason::HeadersDiffer => 18,
+        Reason::TooLarge => 19,
     }
 }

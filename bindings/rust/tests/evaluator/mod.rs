@@ -1,5 +1,6 @@
 //! A plain evaluator of tables and diagrams, written from the requirements alone. It uses nothing of the library.
 
+mod attaching;
 mod diagram;
 mod printed;
 mod profile;
@@ -7,6 +8,7 @@ mod reader;
 mod ruling;
 mod walk;
 
+pub use attaching::attach;
 pub use diagram::Diagram;
 pub use reader::{Table, HEADER, RECORD};
 
@@ -129,6 +131,20 @@ impl Due {
             Ok(walked) => Due {
                 count: walked.len(),
                 numbers: walked.iter().map(|&n| n as u16).collect(),
+                ..Due::default()
+            },
+            Err(refused) => Due::refused(*refused),
+        }
+    }
+
+    /// Attaching in a room of so many bytes: 11 where it is "too short, last of all".
+    pub fn attached(attached: &Result<Vec<u8>, Refused>, room: usize) -> Due {
+        match attached {
+            Ok(bytes) if bytes.len() > room => Due::refused(Refused(11, 0)),
+            // "The answer counts the bytes written"
+            Ok(bytes) => Due {
+                count: bytes.len(),
+                numbers: bytes.iter().map(|&byte| byte.into()).collect(),
                 ..Due::default()
             },
             Err(refused) => Due::refused(*refused),

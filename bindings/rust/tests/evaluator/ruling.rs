@@ -9,9 +9,9 @@ const NOT: u8 = 2;
 const UNCLEAR: u8 = 3;
 
 /// A child of a group: what it gives, and whether it counts under "only one".
-struct Child {
-    decision: u8,
-    counts: bool,
+pub(super) struct Child {
+    pub(super) decision: u8,
+    pub(super) counts: bool,
 }
 
 /// What a node gives, where these nodes apply.
@@ -29,6 +29,11 @@ impl Table {
     }
 
     fn rule_by(&self, joint: &Joint, decide: Decide) -> Result<Ruled, Refused> {
+        Ok(self.given(&self.applying(joint)?, decide))
+    }
+
+    /// Which nodes apply to a set, or refusal 13 or 9.
+    pub(super) fn applying(&self, joint: &Joint) -> Result<Vec<bool>, Refused> {
         let members = &joint.members;
         // "13 when the party is empty or names a figure above the who maximum"
         if members.is_empty() || members.iter().any(|&member| member > self.maxima[0]) {
@@ -39,13 +44,15 @@ impl Table {
         // above it"
         let meets = |node: &Node, member| self.applies(node, joint.asked_by(member));
         let applies = |node: &Node| members.iter().any(|&member| meets(node, member));
-        Ok(self.given(applies, decide))
+        Ok(self.nodes.iter().map(applies).collect())
     }
 
     /// What the groups give a request of one subject, or refusal 9.
     pub fn rule_one(&self, values: Values) -> Result<Ruled, Refused> {
         within(&values, self.maxima)?;
-        Ok(self.given(|node| self.applies(node, values), Table::decision))
+        let nodes = self.nodes.iter();
+        let applies: Vec<bool> = nodes.map(|node| self.applies(node, values)).collect();
+        Ok(self.given(&applies, Table::decision))
     }
 
     /// "Two tables with the same maxima rule alike when the groups give, for every question within them, the same
@@ -63,12 +70,11 @@ impl Table {
     }
 
     /// The decision of the root, and the cards of all matching rules, where these nodes apply.
-    fn given(&self, applies: impl Fn(&Node) -> bool, decide: Decide) -> Ruled {
-        let applies: Vec<bool> = self.nodes.iter().map(applies).collect();
-        let nodes = self.nodes.iter().zip(&applies);
+    fn given(&self, applies: &[bool], decide: Decide) -> Ruled {
+        let nodes = self.nodes.iter().zip(applies);
         let matching = nodes.filter(|(node, &applies)| node.is_rule() && applies);
         Ruled {
-            decision: decide(self, 0, &applies),
+            decision: decide(self, 0, applies),
             cards: matching.map(|(node, _)| node.card).collect(),
         }
     }
@@ -81,18 +87,15 @@ impl Table {
         let children = node.children.iter();
         let children = children.map(|&child| self.child(child, applies));
         match node.kind {
-            0 => first(decisions(children)),
-            1 => only_one(children.collect()),
-            2 => may_beats(decisions(children)),
-            3 => may_not_beats(decisions(children)),
             4 => MAY,
-            _ => NOT,
+            5 => NOT,
+            group => combined(group, children),
         }
     }
 
     /// "a group child counts when its target holds, though no card in it matches. A rule child counts when it
     /// matches." "For a party, a child counts when it holds for the party."
-    fn child(&self, place: usize, applies: &[bool]) -> Child {
+    pub(super) fn child(&self, place: usize, applies: &[bool]) -> Child {
         Child {
             decision: self.decision(place, applies),
             counts: applies[place],
@@ -101,11 +104,21 @@ impl Table {
 }
 
 /// "A node's target holds when all three values lie in its ranges."
-fn holds(node: &Node, values: Values) -> bool {
+pub(super) fn holds(node: &Node, values: Values) -> bool {
     (0..FIELDS).all(|field| {
         let (low, high) = node.ranges[field];
         u16::from(low) <= values[field] && values[field] <= u16::from(high)
     })
+}
+
+/// What a group of a kind gives, where its target and every target above it hold.
+pub(super) fn combined(kind: u8, children: impl Iterator<Item = Child>) -> u8 {
+    match kind {
+        0 => first(decisions(children)),
+        1 => only_one(children.collect()),
+        2 => may_beats(decisions(children)),
+        _ => may_not_beats(decisions(children)),
+    }
 }
 
 fn decisions(children: impl Iterator<Item = Child>) -> Vec<u8> {

@@ -114,6 +114,15 @@ impl Outline {
         self.insert_group(place, level, kind);
     }
 
+    /// All nodes of another outline, as the last child of the root with all under it.
+    pub fn attach(&mut self, expansion: &Outline) {
+        let deeper = |node: &Node| Node {
+            level: node.level + 1,
+            ..*node
+        };
+        self.nodes.extend(expansion.nodes.iter().map(deeper));
+    }
+
     pub fn bytes(&self) -> Vec<u8> {
         let mut bytes = vec![0, 0, 1];
         bytes.extend(self.maxima);

@@ -22,10 +22,31 @@ pub fn empty_root(kind: u8) -> Outline {
 
 /// One path of groups down to a level.
 pub fn chain(levels: usize) -> Outline {
+    path_among(0, levels, 0)
+}
+
+/// A path of groups down to a level, and under its root so many rules before the rest of the path and so many after it.
+/// All are for the lowest values, so that any maxima will do.
+pub fn path_among(before: u16, levels: usize, after: u16) -> Outline {
     let mut outline = Outline::new([0; FIELDS]);
-    for level in 1..=levels {
-        outline.add(level, 0, 0, outline.all());
+    let lowest = outline.all();
+    outline.add(1, 0, 0, lowest);
+    for card in 1..=before {
+        outline.add(2, 4, card, lowest);
     }
+    for level in 2..=levels {
+        outline.add(level, 0, 0, lowest);
+    }
+    for card in 1..=after {
+        outline.add(2, 5, before + card, lowest);
+    }
+    outline
+}
+
+/// One rule, to permit the lowest values.
+pub fn one_rule() -> Outline {
+    let mut outline = Outline::new([0; FIELDS]);
+    outline.add(1, 4, 10, outline.all());
     outline
 }
 

@@ -38,6 +38,12 @@ pub fn accepted_table(random: &mut Random, maxima: Maxima) -> Outline {
     grown(random, maxima, nodes, levels)
 }
 
+/// A table of at most so many nodes on at most so many levels, which are two or more.
+pub fn bounded_table(random: &mut Random, maxima: Maxima, most: usize, levels: usize) -> Outline {
+    let nodes = any_count(random, most);
+    grown(random, maxima, nodes, levels)
+}
+
 /// A table of few nodes, of which each one tells.
 pub fn small_table(random: &mut Random, maxima: Maxima) -> Outline {
     let nodes = 1 + random.below(12);
@@ -70,7 +76,7 @@ fn any_count(random: &mut Random, most: usize) -> usize {
     match random.below(8) {
         0 => most,
         1 | 2 => 1 + random.below(most),
-        _ => 1 + random.below(20),
+        _ => 1 + random.below(most.min(20)),
     }
 }
 
