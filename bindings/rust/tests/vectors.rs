@@ -19,7 +19,7 @@ const LEAST: [(&str, usize); 6] = [
     ("look_up", 320),
 ];
 
-/// A call with its input, what is asked, and how many places are lent.
+/// A call with its input, what is asked, and how many places or bytes are lent.
 enum Call {
     Read(Vec<u8>),
     Rule(Vec<u8>, Joint, usize),
@@ -27,6 +27,7 @@ enum Call {
     RuleStandard(Vec<u8>, Joint, usize),
     Build(Vec<u8>, usize),
     LookUp(Vec<u16>, Values, usize),
+    Attach(Vec<u8>, Vec<u8>, usize),
 }
 
 impl Call {
@@ -38,6 +39,7 @@ impl Call {
             Call::RuleStandard(..) => "rule_standard",
             Call::Build(..) => "build",
             Call::LookUp(..) => "look_up",
+            Call::Attach(..) => "attach",
         }
     }
 
@@ -62,6 +64,14 @@ impl Call {
                 let ruled = evaluator::look_up(&Diagram::check(diagram), *values);
                 Due::listed(&ruled, *places)
             }
+            Call::Attach(base, expansion, bytes) => {
+                let attached = evaluator::attach(base, expansion);
+                let mut due = Due::attached(&attached, *bytes);
+                // a table may end with zeros, which no line has
+                let last = due.numbers.iter().rposition(|&byte| byte != 0);
+                due.numbers.truncate(last.map_or(0, |last| last + 1));
+                due
+            }
         }
     }
 
@@ -79,15 +89,19 @@ impl Call {
             Call::LookUp(diagram, values, places) => {
                 compare.looks_up(diagram, *values, *places, due);
             }
+            Call::Attach(base, expansion, bytes) => {
+                compare.attaches(base, expansion, *bytes, due);
+            }
         }
     }
 }
 
-/// The last table and the last diagram, which cases start from.
+/// The last table and the last diagram, which cases start from, and the last expansion.
 #[derive(Default)]
 struct Starts {
     table: Vec<u8>,
     diagram: Vec<u16>,
+    expansion: Vec<u8>,
 }
 
 /// The cases, each with the number of its line.
@@ -101,6 +115,8 @@ fn cases() -> Vec<(usize, Call, Due)> {
             bytes_in(bytes).map(|bytes| starts.table = bytes)
         } else if let Some(numbers) = line.strip_prefix("diagram ") {
             numbers_in(numbers).map(|numbers| starts.diagram = numbers)
+        } else if let Some(bytes) = line.strip_prefix("expansion ") {
+            bytes_in(bytes).map(|bytes| starts.expansion = bytes)
         } else {
             let case = starts.case(line);
             case.map(|(call, due)| cases.push((number, call, due)))
@@ -147,6 +163,9 @@ impl Starts {
             ["build", "room", places] => Call::Build(table()?, number(places)?),
             ["look_up", ref asked @ .., "list", places] => {
                 Call::LookUp(diagram()?, values(asked)?, number(places)?)
+            }
+            ["attach", "room", bytes] => {
+                Call::Attach(table()?, self.expansion.clone(), number(bytes)?)
             }
             _ => return None,
         })
