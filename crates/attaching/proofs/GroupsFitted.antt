@@ -13,8 +13,9 @@ use Rattle.answer.specs.Requests.{value}
 use Rattle.answer.specs.Rulings.{Ruling}
 use Rattle.answer.proofs.Tests.{lt-or-ge, both, passes-alike}
 use Rattle.answer.proofs.Below.{every-same, some-same}
-use Rattle.table.specs.Layout.{count, span}
-use Rattle.table.specs.Tree.{endOf, parent}
+use Rattle.combining.specs.Ways.{notApplicable}
+use Rattle.table.specs.Layout.{count}
+use Rattle.table.specs.Tree.{endOf}
 use Rattle.table.specs.Reading.{Accepted}
 use Rattle.table.specs.WellFormed.{WellFormed}
 use Rattle.table.proofs.AcceptedIsWellFormed.{well-formed}
@@ -23,7 +24,8 @@ use Rattle.ruling.specs.Targets.{inRange, fieldHolds, targetHolds, applies}
 use Rattle.ruling.specs.Subjects.{mostSubjects, member, appliesToSome}
 use Rattle.ruling.specs.Meaning.{gives, childOf, children, decision, cardsFrom, cards, meaning}
 use Rattle.ruling.specs.Ruling.{groups, groupsTogether}
-use Rattle.ruling.proofs.Cards.{cards-join}
+use Rattle.ruling.proofs.Cards.{cards-skip, cards-join}
+use Rattle.ruling.proofs.Decisions.{gives-not}
 use Rattle.ruling.proofs.NodesAlike.{Agree, gives-same, decision-same, cards-same}
 use Rattle.ruling.proofs.ChildrenByParents.{EachOf, children-each}
 use Rattle.ruling.proofs.DecisionByChildren.{children-decide}
@@ -193,18 +195,52 @@ module _ (t b e : List ℕ) (u : Accepted t) (c : Accepted b) (d : Accepted e) (
   pub groups-fitted : (q : List ℕ) → groups t q ≡ groupsWith b e q
   groups-fitted q = meaning-fitted (applies t q) (applies b q) (appliesUnder b e q) (applies-base q) (applies-expansion q)
 
-  -- for several subjects that ask together
-  pub groups-together-fitted : (s : ℕ) (others : List ℕ) → groupsTogether t s others ≡ groupsTogetherWith b e s others
-  unfolding appliesToSome
-  groups-together-fitted s others =
-      meaning-fitted (appliesToSome t s others) (appliesToSome b s others) (appliesToSomeUnder b e s others) base expansion
-    where
-      base : (i : ℕ) → i < n → appliesToSome t s others i ≡ appliesToSome b s others i
-      base i l =
-          some-same (λ k. member s k && applies t (k ∷ others) i) (λ k. member s k && applies b (k ∷ others) i) mostSubjects
-          (λ k h. ap (λ y. member s k && y) (applies-base (k ∷ others) i l))
+  -- the expansion's groups give what they gave, where the base root's target holds
+  pub groups-holding : (q : List ℕ) → targetHolds b q 0 ≡ true → groups t q ≡ meaningWith (applies b q) (applies e q) b e
+  groups-holding q h =
+      meaning-fitted (applies t q) (applies b q) (applies e q) (applies-base q) (λ i l. applies-expansion q i l ∙ ap (λ x. x && applies e q i) h)
 
-      expansion : (i : ℕ) → i < count e → appliesToSome t s others (n + i) ≡ appliesToSomeUnder b e s others i
-      expansion i l =
-          some-same (λ k. member s k && applies t (k ∷ others) (n + i)) (λ k. member s k && appliesUnder b e (k ∷ others) i) mostSubjects
-          (λ k h. ap (λ y. member s k && y) (applies-expansion (k ∷ others) i l))
+  -- and nothing is given where it fails
+  pub groups-failing : (q : List ℕ) → targetHolds b q 0 ≡ false → groups t q ≡ record { decision = notApplicable; cards = [] }
+  groups-failing q h =
+      ap₂ ruling (gives-not (applies t q) t 0 (children (applies t q) t (under t 0)) (out 0 (well-formed t u .some)))
+      (cards-skip (applies t q) t (count t) 0 (λ i l m. out i (omega arith)))
+    where
+      ruling : ℕ → List ℕ → Ruling
+      ruling k cs = record { decision = k; cards = cs }
+
+      out : (i : ℕ) → i < count t → applies t q i ≡ false
+      out i l = applies-under t q 0 i (omega arith) (omega (arith, f .root-span)) (base-target q 0 (v .some) ∙ h)
+
+  -- for several subjects that ask together
+  module _ (s : ℕ) (others : List ℕ) where
+    base-together : (i : ℕ) → i < n → appliesToSome t s others i ≡ appliesToSome b s others i
+    unfolding appliesToSome
+    base-together i l =
+        some-same (λ k. member s k && applies t (k ∷ others) i) (λ k. member s k && applies b (k ∷ others) i) mostSubjects
+        (λ k h. ap (λ y. member s k && y) (applies-base (k ∷ others) i l))
+
+    expansion-together : (i : ℕ) → i < count e → appliesToSome t s others (n + i) ≡ appliesToSomeUnder b e s others i
+    unfolding appliesToSome
+    expansion-together i l =
+        some-same (λ k. member s k && applies t (k ∷ others) (n + i)) (λ k. member s k && appliesUnder b e (k ∷ others) i) mostSubjects
+        (λ k h. ap (λ y. member s k && y) (applies-expansion (k ∷ others) i l))
+
+    pub together-fitted : groupsTogether t s others ≡ groupsTogetherWith b e s others
+    together-fitted =
+        meaning-fitted (appliesToSome t s others) (appliesToSome b s others) (appliesToSomeUnder b e s others) base-together expansion-together
+
+    -- where the base root's target holds for each of them
+    pub together-holding : ((k : ℕ) → member s k ≡ true → targetHolds b (k ∷ others) 0 ≡ true) →
+        groupsTogether t s others ≡ meaningWith (appliesToSome b s others) (appliesToSome e s others) b e
+    unfolding appliesToSome
+    together-holding h =
+        meaning-fitted (appliesToSome t s others) (appliesToSome b s others) (appliesToSome e s others) base-together
+        (λ i l.
+        expansion-together i l
+        ∙ some-same (λ k. member s k && appliesUnder b e (k ∷ others) i) (λ k. member s k && applies e (k ∷ others) i) mostSubjects
+        (λ k m. by (member s k) (targetHolds b (k ∷ others) 0) (applies e (k ∷ others) i) (h k)))
+      where
+        by : (x y z : Bool) → (x ≡ true → y ≡ true) → (x && (y && z)) ≡ (x && z)
+        by true y z g = ap (λ y. y && z) (g refl)
+        by false y z g = refl

@@ -6,3 +6,4 @@ pub mod GroupsFitted
 pub mod FitFaults
 pub mod Copied
 pub mod AttachAnswers
+pub mod AttachedIsFitted

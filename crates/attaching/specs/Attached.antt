@@ -9,12 +9,12 @@ use lib.ListN.{length, drop}
 use Rattle.answer.specs.Below.{someBelow}
 use Rattle.answer.specs.Fields.{fields}
 use Rattle.answer.specs.Answers.{refused, counted}
-use Rattle.answer.specs.Refusals.{Refusal, row, settled}
+use Rattle.answer.specs.Refusals.{Refusal, row, settled, None}
 use Rattle.answer.specs.Rulings.{listedOr}
 use Rattle.answer.specs.declared.Answer.{Answer}
 use Rattle.table.specs.Layout.{version, maximum, count, header}
 use Rattle.table.specs.Tree.{isRule, hasLevel}
-use Rattle.table.specs.Reading.{tableRefusals}
+use Rattle.table.specs.Reading.{tableRefusals, Accepted}
 use Rattle.table.specs.Writing.{withBytesAfter, withCount, withSpan}
 
 -- "From a base table and an expansion table write one table, with the expansion's root as the last child of the base root": the base's bytes, and then
@@ -41,6 +41,12 @@ tooLarge b e = ltb 128 (count (attachedBytes b e)) || hasLevel (attachedBytes b 
 -- "17 when the base root is a rule, 18 when versions or maxima differ, 19 when the result has over 128 nodes or a ninth level, in this order"
 abbrev pub fitRefusals : List ℕ → List ℕ → List Refusal
 fitRefusals b e = row 17 0 (isRule b 0) ∷ row 18 0 (headersDiffer b e) ∷ row 19 0 (tooLarge b e) ∷ []
+
+-- The expansion can be fitted to the base: both are accepted, and none of 17 to 19 applies.
+pub record Attaches (b e : List ℕ) : Type 0 where
+  pub base : Accepted b
+  pub expansion : Accepted e
+  pub fit : None (fitRefusals b e)
 
 -- "11 is also returned where the lent output is too short": of n bytes
 abbrev pub bytesRefusal : List ℕ → List ℕ → ℕ → Refusal

@@ -13,8 +13,9 @@ use Rattle.answer.specs.Rulings.{answerOf}
 use Rattle.answer.specs.Below.{someBelow, countBelow}
 use Rattle.combining.specs.Ways.{notApplicable}
 use Rattle.table.specs.Layout.{word, maximum, valuesFrom, maxima, count, header, recordSize, start, recordByte, recordWord}
-use Rattle.table.specs.Tree.{parent, level}
+use Rattle.table.specs.Tree.{parent, level, hasLevel}
 use Rattle.table.specs.Reading.{lengthFault, versionFault, countFault, kindFault, spanFault, levelFault, rangeFault, rangesFault, cardFault, tableRefusals, Accepted}
+use Rattle.table.specs.Writing.{withWord}
 use Rattle.ruling.specs.Forest.{forestWithin, childrenFrom}
 use Rattle.ruling.specs.Targets.{inRange, targetHolds, applies}
 use Rattle.ruling.specs.Subjects.{appliesToSome, size, subjectsFault, AskedWithin}
@@ -22,6 +23,7 @@ use Rattle.ruling.specs.Meaning.{gives, cardsFrom, meaning}
 use Rattle.ruling.specs.Ruling.{groups, groupsTogether}
 use Rattle.ruling.proofs.WithinTogether.{within-answered}
 use Rattle.standard.specs.Profile.{holdsRule, holdsGroup, mixedGroup, ruleInOnlyOne, ruleAsRoot, profileRefusals}
+use Rattle.attaching.specs.Attached.{attachedBytes, headersDiffer, tooLarge}
 use Rattle.sets.specs.Sets.{bit}
 use Rattle.diagram.specs.Entries.{terminal, node}
 use Rattle.diagram.specs.Decided.{le?, lt?, eq?, iff?, not?, and?, or?, when?, one-more?, each?}
@@ -32,7 +34,7 @@ use Rattle.diagram.proofs.DiagramGoesByRulingsWithin.{diagram-goes-by-rulings-w
 use Rattle.diagram.proofs.OneRulingForAll.{none-everywhere}
 use Rattle.building.specs.Built.{diagramOf}
 use Rattle.building.proofs.BuildAnswers.{accepted-built}
-use Rattle.kolfsein.specs.Cases.{tableT, overOnlyOne, emptyRoot, emptyDiagram, permitFirst, denyFirst, ruleFor1InGroupFor0, silentBesidePermit, oneSilent, twoSilent, emptyBesidePermit, ruleRoot, twoFaults, groupsOfRules, GivesRuling, GivesDiagram, Cases}
+use Rattle.kolfsein.specs.Cases.{tableT, overOnlyOne, emptyRoot, emptyDiagram, permitFirst, denyFirst, ruleFor1InGroupFor0, silentBesidePermit, oneSilent, twoSilent, emptyBesidePermit, ruleRoot, twoFaults, groupsOfRules, noScoutAttacks, nested, onLevels, branching, of127Nodes, GivesRuling, GivesDiagram, Cases}
 
 either : (b : Bool) (n : ℕ) → cond b n n ≡ n
 either true n = refl
@@ -106,7 +108,7 @@ module _ (kind subject resource action : ℕ) (few : kind < 4) where
       }
 
 pub cases-hold : Cases
-unfolding diagram walk enter extend below terminal node edge lookUp tableT overOnlyOne permitFirst denyFirst ruleFor1InGroupFor0 silentBesidePermit oneSilent twoSilent emptyBesidePermit ruleRoot twoFaults groupsOfRules emptyRoot holdsRule holdsGroup mixedGroup ruleInOnlyOne ruleAsRoot profileRefusals childrenFrom upward settled word maximum valuesFrom maxima count header recordSize start recordByte recordWord parent level lengthFault versionFault countFault kindFault spanFault levelFault rangeFault rangesFault cardFault tableRefusals forestWithin inRange targetHolds applies bit someBelow countBelow appliesToSome subjectsFault gives cardsFrom le? lt? eq? iff? not? and? or? when? one-more? each? scan? start? entry-before? terminal-holds? sound-terminal? sound-node? sound-entry? sound?
+unfolding noScoutAttacks nested onLevels branching of127Nodes withWord attachedBytes headersDiffer tooLarge hasLevel diagram walk enter extend below terminal node edge lookUp tableT overOnlyOne permitFirst denyFirst ruleFor1InGroupFor0 silentBesidePermit oneSilent twoSilent emptyBesidePermit ruleRoot twoFaults groupsOfRules emptyRoot holdsRule holdsGroup mixedGroup ruleInOnlyOne ruleAsRoot profileRefusals childrenFrom upward settled word maximum valuesFrom maxima count header recordSize start recordByte recordWord parent level lengthFault versionFault countFault kindFault spanFault levelFault rangeFault rangesFault cardFault tableRefusals forestWithin inRange targetHolds applies bit someBelow countBelow appliesToSome subjectsFault gives cardsFrom le? lt? eq? iff? not? and? or? when? one-more? each? scan? start? entry-before? terminal-holds? sound-terminal? sound-node? sound-entry? sound?
 cases-hold =
     record {
       t-0-0-0 = record { answer = refl; holds = refl };
@@ -159,4 +161,24 @@ cases-hold =
       groups-of-rules-list-of-1 = record { answer = refl; holds = refl };
       groups-of-rules-no-subject = record { answer = refl; holds = refl };
       empty-standard = (refl, refl, refl, refl);
+      t-attached = record { answer = refl; holds = refl };
+      t-attached-in-87 = record { answer = refl; holds = refl };
+      t-attached-in-84 = record { answer = refl; holds = refl };
+      t-attached-0-1-1 = record { answer = refl; holds = refl };
+      t-attached-0-1-attack = record { answer = refl; holds = refl };
+      t-attached-0-0-0 = record { answer = refl; holds = refl };
+      base-is-rule = record { answer = refl; holds = refl };
+      subjects-differ = record { answer = refl; holds = refl };
+      resources-differ = record { answer = refl; holds = refl };
+      actions-differ = record { answer = refl; holds = refl };
+      of-128-nodes = refl;
+      of-129-nodes = record { answer = refl; holds = refl };
+      on-8-levels = refl;
+      on-9-levels = record { answer = refl; holds = refl };
+      base-on-8-levels = refl;
+      base-first = record { answer = refl; holds = refl };
+      expansion-second = record { answer = refl; holds = refl };
+      rule-before-headers = record { answer = refl; holds = refl };
+      headers-before-levels = record { answer = refl; holds = refl };
+      levels-before-room = record { answer = refl; holds = refl };
     }

@@ -2,7 +2,7 @@
 -- Assumes nothing: these are definitions.
 use mathlib.Core.List.{List, [], _∷_}
 use mathlib.Core.Path.{_≡_}
-use Prim.Native.Nat.{ℕ, _+_, _*_, _^_, _≤_, _<_}
+use Prim.Native.Nat.{ℕ, zero, suc, _+_, _-_, _*_, _^_, _≤_, _<_}
 use Rattle.answer.specs.Answers.{refused, counted, ruled, zeros, padded}
 use Rattle.answer.specs.declared.Answer.{Answer}
 use Rattle.combining.specs.Kinds.{firstApplicableKind, onlyOneApplicableKind, permitOverridesKind, denyOverridesKind}
@@ -12,6 +12,7 @@ use Rattle.ruling.specs.Subjects.{size, AskedWithin}
 use Rattle.ruling.specs.Ruling.{ruling, ruledList}
 use Rattle.standard.specs.Profile.{readingStandard}
 use Rattle.standard.specs.RulingStandard.{rulingStandard, ruledListStandard}
+use Rattle.attaching.specs.Attached.{attached, attachedTable}
 use Rattle.diagram.specs.LookedUp.{lookedUp, lookedUpList}
 use Rattle.diagram.specs.SmallRulebook.{diagramT}
 use Rattle.building.specs.Built.{built, builtDiagram}
@@ -127,6 +128,49 @@ unfoldable pub groupsOfRules : List ℕ
 groupsOfRules =
     rootOver denyOverridesKind 4 (groupOver firstApplicableKind 1 (permitFor0 (groupOver permitOverridesKind 1 (denyFor1 []))))
 
+-- paper 6, an expansion for T: of all attacks, card 40, the scout may not attack
+unfoldable pub noScoutAttacks : List ℕ
+noScoutAttacks =
+    0 ∷ 28 ∷ 1 ∷ 2 ∷ 1 ∷ 1 ∷ 0 ∷ 2
+    ∷ 0 ∷ 0 ∷ 2 ∷ 0 ∷ 0 ∷ 0 ∷ 2 ∷ 0 ∷ 1 ∷ 1 ∷ 1
+    ∷ 5 ∷ 0 ∷ 1 ∷ 0 ∷ 40 ∷ 0 ∷ 0 ∷ 0 ∷ 1 ∷ 0 ∷ 1
+    ∷ []
+
+-- T with that expansion's root as the last child of its root: "count, root span and length follow, all other bytes are copied"
+abbrev pub attachedT : List ℕ
+attachedT =
+    0 ∷ 83 ∷ 1 ∷ 2 ∷ 1 ∷ 1 ∷ 0 ∷ 7
+    ∷ 3 ∷ 0 ∷ 7 ∷ 0 ∷ 0 ∷ 0 ∷ 2 ∷ 0 ∷ 1 ∷ 0 ∷ 1
+    ∷ 4 ∷ 0 ∷ 1 ∷ 0 ∷ 10 ∷ 0 ∷ 2 ∷ 0 ∷ 1 ∷ 0 ∷ 0
+    ∷ 5 ∷ 0 ∷ 1 ∷ 0 ∷ 20 ∷ 2 ∷ 2 ∷ 0 ∷ 0 ∷ 0 ∷ 0
+    ∷ 0 ∷ 0 ∷ 2 ∷ 0 ∷ 0 ∷ 1 ∷ 1 ∷ 0 ∷ 1 ∷ 1 ∷ 1
+    ∷ 4 ∷ 0 ∷ 1 ∷ 0 ∷ 30 ∷ 0 ∷ 2 ∷ 1 ∷ 1 ∷ 0 ∷ 1
+    ∷ 0 ∷ 0 ∷ 2 ∷ 0 ∷ 0 ∷ 0 ∷ 2 ∷ 0 ∷ 1 ∷ 1 ∷ 1
+    ∷ 5 ∷ 0 ∷ 1 ∷ 0 ∷ 40 ∷ 0 ∷ 0 ∷ 0 ∷ 1 ∷ 0 ∷ 1
+    ∷ []
+
+-- a group over n more nodes, for value 0 of each field
+abbrev groupFor0 : ℕ → List ℕ → List ℕ
+groupFor0 n more = 0 ∷ 0 ∷ (n + 1) ∷ 0 ∷ 0 ∷ 0 ∷ 0 ∷ 0 ∷ 0 ∷ 0 ∷ 0 ∷ more
+
+-- groups, each in the one before it, on n levels
+unfoldable pub nested : ℕ → List ℕ
+nested zero = []
+nested (suc n) = groupFor0 n (nested n)
+
+-- such a table; every maximum is 0
+unfoldable pub onLevels : ℕ → List ℕ
+onLevels n = 0 ∷ (11 * n + 6) ∷ 1 ∷ 0 ∷ 0 ∷ 0 ∷ 0 ∷ n ∷ nested n
+
+-- groups of two groups, on n levels, before more nodes
+unfoldable pub branching : ℕ → List ℕ → List ℕ
+branching zero more = more
+branching (suc n) more = groupFor0 (2 ^ suc n - 2) (branching n (branching n more))
+
+-- a table of 127 nodes, on 7 levels; every maximum is 0
+unfoldable pub of127Nodes : List ℕ
+of127Nodes = 5 ∷ 123 ∷ 1 ∷ 0 ∷ 0 ∷ 0 ∷ 0 ∷ 127 ∷ branching 7 []
+
 -- "bit k stands for figure k": the set of subject k alone
 abbrev pub only : ℕ → ℕ
 only k = 2 ^ k
@@ -150,6 +194,11 @@ pub record GivesLookUp (d q : List ℕ) (n : ℕ) (a : Answer) (list : List ℕ)
 pub record GivesDiagram (t : List ℕ) (n : ℕ) (a : Answer) (d : List ℕ) : Type 0 where
   pub answer : built t n ≡ a
   pub holds : builtDiagram t n ≡ d
+
+-- Fitting expansion e to base b, in n bytes, gives this answer, and they then hold this.
+pub record GivesTable (b e : List ℕ) (n : ℕ) (a : Answer) (t : List ℕ) : Type 0 where
+  pub answer : attached b e n ≡ a
+  pub holds : attachedTable b e n ≡ t
 
 -- "two tables with equal diagrams": both are built in n places, which then hold the same
 pub record EqualDiagrams (t u : List ℕ) (n : ℕ) : Type 0 where
@@ -250,3 +299,32 @@ pub record Cases : Type 0 where
       × (readingStandard (emptyRoot 1 0 0 0) ≡ counted 1)
       × (readingStandard (emptyRoot 2 0 0 0) ≡ counted 1)
       × (readingStandard (emptyRoot 3 0 0 0) ≡ counted 1)
+  -- paper 6, T with an expansion, byte for byte: in as many bytes as it takes, and in two more, which become 0
+  pub t-attached : GivesTable (tableT 3) noScoutAttacks 85 (counted 85) attachedT
+  pub t-attached-in-87 : GivesTable (tableT 3) noScoutAttacks 87 (counted 85) (padded attachedT 87)
+  -- "11 is also returned where the lent output is too short", "and refused output is zeros"
+  pub t-attached-in-84 : GivesTable (tableT 3) noScoutAttacks 84 (refused 11 0) (zeros 84)
+  -- what it gives: the expansion's card after T's, and for a party of scout and captain both
+  pub t-attached-0-1-1 : GivesRuling attachedT (only 0) (1 ∷ 1 ∷ []) 2 (ruled deny 1 1) (40 ∷ 0 ∷ [])
+  pub t-attached-0-1-attack : GivesRuling attachedT (only 0 + only 1) (1 ∷ 1 ∷ []) 3 (ruled deny 2 2) (30 ∷ 40 ∷ 0 ∷ [])
+  pub t-attached-0-0-0 : GivesRuling attachedT (only 0) (0 ∷ 0 ∷ []) 2 (ruled permit 1 1) (10 ∷ 0 ∷ [])
+  -- "17 when the base root is a rule"
+  pub base-is-rule : GivesTable ruleRoot (emptyRoot 0 0 0 0) 30 (refused 17 0) (zeros 30)
+  -- "18 when versions or maxima differ": each maximum
+  pub subjects-differ : GivesTable (tableT 3) (emptyRoot 0 1 1 1) 74 (refused 18 0) (zeros 74)
+  pub resources-differ : GivesTable (tableT 3) (emptyRoot 0 2 0 1) 74 (refused 18 0) (zeros 74)
+  pub actions-differ : GivesTable (tableT 3) (emptyRoot 0 2 1 2) 74 (refused 18 0) (zeros 74)
+  -- "19 when the result has over 128 nodes": 128 pass, 129 do not
+  pub of-128-nodes : attached of127Nodes (emptyRoot 0 0 0 0) 1416 ≡ counted 1416
+  pub of-129-nodes : GivesTable of127Nodes (onLevels 2) 1427 (refused 19 0) (zeros 1427)
+  -- "or a ninth level": an expansion on 7 levels passes, one on 8 does not; a base on 8 does
+  pub on-8-levels : attached (emptyRoot 0 0 0 0) (onLevels 7) 96 ≡ counted 96
+  pub on-9-levels : GivesTable (emptyRoot 0 0 0 0) (onLevels 8) 107 (refused 19 0) (zeros 107)
+  pub base-on-8-levels : attached (onLevels 8) (emptyRoot 0 0 0 0) 107 ≡ counted 107
+  -- "in this order after both tables' own faults, the base first": the base's 4 before the expansion's 1, this before 17, 17 before 18, 18 before 19 and
+  -- 19 before 11
+  pub base-first : GivesTable (tableT 6) [] 1 (refused 4 0) (0 ∷ [])
+  pub expansion-second : GivesTable ruleRoot [] 1 (refused 1 0) (0 ∷ [])
+  pub rule-before-headers : GivesTable ruleRoot noScoutAttacks 1 (refused 17 0) (0 ∷ [])
+  pub headers-before-levels : GivesTable (tableT 3) (onLevels 8) 1 (refused 18 0) (0 ∷ [])
+  pub levels-before-room : GivesTable (emptyRoot 0 0 0 0) (onLevels 8) 1 (refused 19 0) (0 ∷ [])

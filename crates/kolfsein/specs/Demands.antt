@@ -5,7 +5,7 @@ use mathlib.Core.List.{List, [], _∷_, _++_, map}
 use mathlib.Core.Logic.{_↔_}
 use mathlib.Core.Option.{some}
 use mathlib.Core.Path.{_≡_}
-use Prim.Native.Nat.{ℕ, _-_, _^_, _≤_, _<_}
+use Prim.Native.Nat.{ℕ, suc, _+_, _-_, _^_, _≤_, _<_}
 use lib.ListN.{length, getD, take}
 use Rattle.answer.specs.Fields.{fields}
 use Rattle.answer.specs.Answers.{refused, counted, ruled, zeros, padded}
@@ -17,7 +17,7 @@ use Rattle.combining.specs.Kinds.{onlyOneApplicableKind, denyOverridesKind}
 use Rattle.combining.specs.Ways.{notApplicable, indeterminate}
 use Rattle.table.specs.Layout.{Bytes, maximum, maxima, count, kind, card, low, high}
 use Rattle.table.specs.Ranges.{rangesWord, lowOf, highOf}
-use Rattle.table.specs.Tree.{isRule, Above}
+use Rattle.table.specs.Tree.{isRule, parent, level, hasLevel, Above}
 use Rattle.table.specs.Reading.{tableRefusals, reading, Accepted}
 use Rattle.ruling.specs.Forest.{under, childrenOf, trees}
 use Rattle.ruling.specs.Targets.{targetHolds, targetHoldsFrom, applies}
@@ -30,6 +30,9 @@ use Rattle.standard.specs.Profile.{holdsRule, holdsGroup, standardRefusals, Sta
 use Rattle.standard.specs.RulingStandard.{rulingStandardRefusals, rulingStandard, ruledListStandard}
 use Rattle.standard.specs.AppendixC.{ruleCombining, policyCombining}
 use Rattle.standard.specs.AsPrinted.{rulesOf, policiesOf}
+use Rattle.attaching.specs.Attached.{attachedBytes, attachRefusals, attached, attachedTable, Attaches}
+use Rattle.attaching.specs.Fitted.{Fitted}
+use Rattle.attaching.specs.Meaning.{meaningWith, groupsWith, groupsTogetherWith}
 use Rattle.diagram.specs.Layout.{used}
 use Rattle.diagram.specs.LookUp.{ruledBy}
 use Rattle.diagram.specs.Sound.{Sound}
@@ -73,7 +76,7 @@ nothing = tt
 
 pub record Demands : Type 0 where
   -- Demand 1: "If a table, a diagram, a question or a lent list is faulty or too short in a way document 01 names, the call returns the
-  -- number given there and leaves zeros throughout what it was lent to write", for each of the six calls, of which the readings are lent nothing:
+  -- number given there and leaves zeros throughout what it was lent to write", for each of the seven calls, of which the readings are lent nothing:
   -- by its refusals in their order, each "returned where its condition holds and none earlier in this order does, and at no other time".
   -- "every call ends, on all inputs, and expects no check made beforehand": each is proved to end, and none has a requirement.
   pub reading-refuses : (t : List ℕ) → Answers (tableRefusals t) refused nothing (counted (count t)) nothing (reading t) nothing
@@ -92,6 +95,14 @@ pub record Demands : Type 0 where
       Answers (buildRefusals t n) refused (zeros n) (counted (length (diagramOf t))) (padded (diagramOf t) n) (built t n) (builtDiagram t n)
   pub look-up-refuses : (d q : List ℕ) (n : ℕ) →
       Answers (lookUpRefusals d q n) refused (zeros n) (answerOf (ruledBy d q) 0) (padded (ruledBy d q .cards) n) (lookedUp d q n) (lookedUpList d q n)
+  -- paper 6, "17 when the base root is a rule, 18 when versions or maxima differ, 19 when the result has over 128 nodes or a ninth level, in this order
+  -- after both tables' own faults, the base first", 11 "last of all", "and refused output is zeros"; "The answer counts the bytes written; lent bytes
+  -- past them become 0"
+  pub attach-refuses : (b e : List ℕ) (n : ℕ) →
+      let t = attachedBytes b e in
+      Answers (attachRefusals b e n) refused (zeros n) (counted (length t)) (padded t n) (attached b e n) (attachedTable b e n)
+  -- "a ninth level": exactly where the expansion has an eighth
+  pub ninth-level : (b e : List ℕ) → Accepted b → Accepted e → hasLevel (attachedBytes b e) 9 ≡ hasLevel e 8
   -- "diagram not sound": the condition of 12
   pub unsound-refused : (d : List ℕ) → (diagramRefusal d .when ≡ true) ↔ (Sound fields d → ⊥)
   -- "Success has number 0 and place 0", "a reading alone counts nodes, a build counts places used, both with decision 0"; "Any further
@@ -170,6 +181,34 @@ pub record Demands : Type 0 where
       (ruling t s others n .decision ≡ indeterminate → ⊥) × (rulingStandard t s others n .decision ≡ indeterminate → ⊥)
   pub diagram-never-indeterminate : (t : List ℕ) → kind t 0 ≡ denyOverridesKind → (room : ℕ) → Builds t room → (following q : List ℕ) (n : ℕ) →
       length q ≡ fields → lookedUp (usedPart t room ++ following) q n .decision ≡ indeterminate → ⊥
+  -- paper 6, "write one table": it is accepted, and its nodes are the base's and then the expansion's, with their kinds, cards and ranges
+  pub attached-accepted : (b e : List ℕ) → Attaches b e → Accepted (attachedBytes b e)
+  pub attached-nodes : (b e : List ℕ) → Attaches b e → Fitted (attachedBytes b e) b e
+  -- "with the expansion's root as the last child of the base root": by parents; the other nodes have the parents that they had, and those of the
+  -- expansion are one level deeper
+  pub attached-last-child : (b e : List ℕ) → Attaches b e → childrenOf (attachedBytes b e) 0 ≡ childrenOf b 0 ++ (count b ∷ [])
+  pub attached-parents : (b e : List ℕ) → Attaches b e →
+      let t = attachedBytes b e in
+      ((i : ℕ) → i < count b → parent t i ≡ parent b i)
+      × (parent t (count b) ≡ 0)
+      × ((i : ℕ) → 0 < i → i < count e → parent t (count b + i) ≡ count b + parent e i)
+  pub attached-levels : (b e : List ℕ) → Attaches b e →
+      let t = attachedBytes b e in
+      ((i : ℕ) → i < count b → level t i ≡ level b i) × ((i : ℕ) → i < count e → level t (count b + i) ≡ suc (level e i))
+  -- what its groups give: what the base's root gives of its own children and then the expansion's root, and the cards of both, in this order, where of
+  -- the expansion nothing applies but under the base root's target; for a question of one figure, and for a party
+  pub attached-rules : (b e : List ℕ) → Attaches b e → (q : List ℕ) → groups (attachedBytes b e) q ≡ groupsWith b e q
+  pub attached-rules-together : (b e : List ℕ) → Attaches b e → (s : ℕ) (others : List ℕ) →
+      groupsTogether (attachedBytes b e) s others ≡ groupsTogetherWith b e s others
+  -- so of the expansion the same applies as without the base, where the base root's target holds, for a party for each of its figures; and where it
+  -- fails, "a group whose target fails gives none", with no card
+  pub attached-holds : (b e : List ℕ) → Attaches b e → (q : List ℕ) → targetHolds b q 0 ≡ true →
+      groups (attachedBytes b e) q ≡ meaningWith (applies b q) (applies e q) b e
+  pub attached-holds-together : (b e : List ℕ) → Attaches b e → (s : ℕ) (others : List ℕ) →
+      ((k : ℕ) → member s k ≡ true → targetHolds b (k ∷ others) 0 ≡ true) →
+      groupsTogether (attachedBytes b e) s others ≡ meaningWith (appliesToSome b s others) (appliesToSome e s others) b e
+  pub attached-fails : (b e : List ℕ) → Attaches b e → (q : List ℕ) → targetHolds b q 0 ≡ false →
+      groups (attachedBytes b e) q ≡ record { decision = notApplicable; cards = [] }
   -- Demand 3: "Through a diagram built here from any accepted table, in whatever room was lent, any question within the table's fields,
   -- asked with any list long enough for its cards, gets a ruling whose decision, count and list, number for number, are the ones the groups
   -- give to that question". "Any slice that starts with this used part is the same built diagram, whatever follows it". Paper 1: "diagrams
