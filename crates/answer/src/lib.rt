@@ -126,10 +126,10 @@ pub fn clear_bytes(table: &mut [u8])
     ensures { λ _. ⌜ now (table .exit) ≡ zeros (length (now (table .entry))) ⌝ }
 {
     let n = table.len();
-    let mut place = 0;
-    while place < n {
-        table[place] = 0;
-        place += 1;
+    let mut byte = 0;
+    while byte < n {
+        table[byte] = 0;
+        byte += 1;
     }
 }
 

@@ -19,7 +19,8 @@ pub(crate) fn attached_size(base: &[u8], expansion: &[u8]) -> usize
     requires { ⌜ WellFormed (now base) × WellFormed (now expansion) ⌝ }
     ensures { λ r. ⌜ (r ≡ length (attachedBytes (now (base .entry)) (now (expansion .entry)))) × (r < 65536) ⌝ }
 {
-    base.len() + (expansion.len() - header_size(expansion))
+    let header = header_size(expansion);
+    base.len() + (expansion.len() - header)
 }
 
 // The base's bytes, and then the expansion's nodes.
@@ -41,7 +42,8 @@ pub(crate) fn write_attached(base: &[u8], expansion: &[u8], table: &mut [u8])
     ensures { λ _. ⌜ now (table .exit) ≡ padded (attachedBytes (now (base .entry)) (now (expansion .entry))) (length (now (table .entry))) ⌝ }
 {
     let size = attached_size(base, expansion);
-    let nodes = count_at(base) + count_at(expansion);
+    let base_nodes = count_at(base);
+    let nodes = base_nodes + count_at(expansion);
     join(base, expansion, table);
     put_bytes_after(table, (size - 2) as u16);
     put_count(table, nodes as u16);

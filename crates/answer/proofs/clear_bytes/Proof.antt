@@ -1,4 +1,4 @@
--- `answer::clear_bytes` meets its contract: the places before `place` are 0, and the rest is as it was.
+-- `answer::clear_bytes` meets its contract: the places before `byte` are 0, and the rest is as it was.
 -- Assumes nothing.
 use Prim.Native.Nat.{_-_}
 use borrow.Author.Needs.{needs}
@@ -7,10 +7,10 @@ use Rattle.answer.proofs.clear_bytes.Statement.{statement}
 use Rattle.answer.proofs.clear_bytes.Tie as tie
 
 abbrev Inv-loop : tie.InvT-loop
-Inv-loop table₀ n place₀ table place = Cleared table₀ n table place
+Inv-loop table₀ n byte₀ table byte = Cleared table₀ n table byte
 
 abbrev μ-loop : tie.MeasureT-loop
-μ-loop table₀ n place₀ table place = n - place
+μ-loop table₀ n byte₀ table byte = n - byte
 
 loop-again : tie.Need-loop-again Inv-loop μ-loop
 loop-again c = cleared-more _ _ _ _ (c .before .loop .inv) (c .loop-test .taken)

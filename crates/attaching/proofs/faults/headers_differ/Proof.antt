@@ -51,17 +51,17 @@ module _ (c : tie.At-loop Inv-loop μ-loop) where
   tables = c .before .before .before .before
 
 maximum-at-requires : tie.Need-maximum-at-requires Inv-loop μ-loop
-maximum-at-requires c κs = (headed (tables (c .before)) .0, c .loop-test .taken)
+maximum-at-requires c κs = (headed (tables (c .before)) .0, omega (arith, c .loop-test .taken))
 
 maximum-at-requires-2 : tie.Need-maximum-at-requires-2 Inv-loop μ-loop
-maximum-at-requires-2 c κs = (headed (tables (c .before .before)) .1, c .before .loop-test .taken)
+maximum-at-requires-2 c κs = (headed (tables (c .before .before)) .1, omega (arith, c .before .loop-test .taken))
 
 returns-2 : tie.Need-returns-2 Inv-loop μ-loop
 returns-2 c =
     let m = c .before in
     let l = m .before .before in
     let s = tables (l .before) in
-    maximum-differs (base s) (expansion s) (l .before .loop .inv .1) (l .before .loop .field) (l .loop-test .taken)
+    maximum-differs (base s) (expansion s) (l .before .loop .inv .1) (l .before .loop .field) (omega (arith, l .loop-test .taken))
     (λ e. c .if2 .taken (m .before .maximum-at .ensures ∙ e ∙ sym (m .maximum-at2 .ensures)))
 
 loop-again : tie.Need-loop-again Inv-loop μ-loop

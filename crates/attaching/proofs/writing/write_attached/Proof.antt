@@ -1,6 +1,6 @@
 -- `attaching::writing::write_attached` meets its contract: the bytes are copied into zeros, and then the three numbers are written.
 -- Assumes nothing.
-use mathlib.Core.Path.{_≡_, ap, ap₂, _∙_}
+use mathlib.Core.Path.{_≡_, ap, _∙_}
 use mathlib.Core.List.{List}
 use Prim.Native.Nat.{ℕ, _+_, _-_, _≤_}
 use native.Mathlib.Omega.{arith}
@@ -49,7 +49,7 @@ module _ (c : tie.After-count-at2) where
   sized = c .before .before
 
   counted : c .before .count-at .result + c .count-at2 .result ≡ nodes (base sized) (expansion sized)
-  counted = ap₂ (λ m n. m + n) (c .before .count-at .ensures .0) (c .count-at2 .ensures .0)
+  counted = omega (arith, c .before .count-at .ensures .0, c .count-at2 .ensures .0)
 
 join-requires : tie.Need-join-requires
 join-requires c κs = let s = sized (c .before) in (formed s, fits s)

@@ -45,7 +45,7 @@ returns c =
     let d = c .before in
     let s = at d in
     pass.found (table s) (s .before .count-at .result) (formed s) (s .loop .ends) (s .loop .depth) (s .loop .i) (s .loop .inv) (inside d)
-    (d .depth-above .result) (d .depth-above .ensures .0) (c .if1 .taken)
+    (d .depth-above .result) (d .depth-above .ensures .0) (omega (arith, c .if1 .taken))
 
 span-at-requires : tie.Need-span-at-requires Inv-loop μ-loop
 span-at-requires c κs =
@@ -64,11 +64,11 @@ loop-again c =
     (λ x.
     rw (x .1) (rw (x .2)
     (pass.next-opened (table s) (s .before .count-at .result) (formed s) (s .loop .ends) (s .loop .depth) (s .loop .i) (s .loop .inv) (inside d)
-    (d .depth-above .result) (d .depth-above .ensures .0) (p .before .if1 .left) _ (ap (λ (k : ℕ). s .loop .i + k) (p .span-at .ensures .0)))))
+    (d .depth-above .result) (d .depth-above .ensures .0) (omega (arith, p .before .if1 .left)) _ (ap (λ (k : ℕ). s .loop .i + k) (p .span-at .ensures .0)))))
     (λ x.
     rw (x .1) (rw (x .2)
     (pass.next (table s) (s .before .count-at .result) (formed s) (s .loop .ends) (s .loop .depth) (s .loop .i) (s .loop .inv) (inside d)
-    (d .depth-above .result) (d .depth-above .ensures .0) (p .before .if1 .left) (omega (arith, p .span-at .ensures .0, x .0 .left)))))
+    (d .depth-above .result) (d .depth-above .ensures .0) (omega (arith, p .before .if1 .left)) (omega (arith, p .span-at .ensures .0, x .0 .left)))))
     (c .if2 .came)
 
 returns-2 : tie.Need-returns-2 Inv-loop μ-loop
