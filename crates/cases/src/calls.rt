@@ -1,5 +1,6 @@
 // The calls that a case can make, and what the library answers to them.
 use crate::input;
+use crate::input::BYTES;
 use crate::numbers::number;
 use crate::numbers::wide;
 use crate::text::between;
@@ -10,9 +11,7 @@ use answer::JointRequest;
 use answer::OTHERS;
 use answer::Request;
 
-// Room for more bytes than a table has, and for more places than a diagram has.
-const BYTES: usize = 1500;
-
+// Room for more places than a diagram has.
 pub(crate) const PLACES: usize = 33000;
 
 // The calls, and how many there are, which stands for none of them.
@@ -26,9 +25,11 @@ pub(crate) const RULE_STANDARD: usize = 3;
 
 pub(crate) const BUILD: usize = 4;
 
-pub(crate) const LOOK_UP: usize = 5;
+pub(crate) const ATTACH: usize = 5;
 
-pub(crate) const CALLS: usize = 6;
+pub(crate) const LOOK_UP: usize = 6;
+
+pub(crate) const CALLS: usize = 7;
 
 // The number of the answer where a case does not say what is asked.
 pub(crate) const NOT_ASKED: u8 = 255;
@@ -36,8 +37,8 @@ pub(crate) const NOT_ASKED: u8 = 255;
 // How many subjects a set can have.
 const MOST: usize = 64;
 
-// A call, the set of subjects or the one subject that it asks about, the values of the other fields, and how many places it
-// is lent.
+// A call, the set of subjects or the one subject that it asks about, the values of the other fields, and how many places or
+// bytes it is lent.
 pub(crate) struct Call {
     pub which: usize,
     pub subjects: u64,
@@ -63,6 +64,9 @@ pub(crate) fn named(text: &[u8]) -> Call {
     }
     if is_worded(text, b" build room*", 1, &mut list) {
         return made(BUILD, 0, [0, 0, 0, list[0]]);
+    }
+    if is_worded(text, b" attach room*", 1, &mut list) {
+        return made(ATTACH, 0, [0, 0, 0, list[0]]);
     }
     if is_worded(text, b" look_up*list*", 4, &mut list) {
         return made(LOOK_UP, 0, list);
@@ -119,7 +123,7 @@ fn subjects_in(text: &[u8]) -> Said {
     }
 }
 
-// A call with its numbers: a subject, the values of the other fields, and how many places it is lent.
+// A call with its numbers: a subject, the values of the other fields, and how many places or bytes it is lent.
 fn made(which: usize, subjects: u64, numbers: [u16; 4]) -> Call {
     Call {
         which,
@@ -130,11 +134,12 @@ fn made(which: usize, subjects: u64, numbers: [u16; 4]) -> Call {
     }
 }
 
-// What the library answers to a call, by the line with the last table or that with the last diagram, and by a case's
-// changes. As many places as the call says are lent of a list.
+// What the library answers to a call, by the lines with the last table, the last expansion and the last diagram, and by a
+// case's changes. As many places as the call says are lent of a list.
 pub(crate) fn ask(
     call: Call,
     table: &[u8],
+    expansion: &[u8],
     diagram: &[u8],
     changes: &[u8],
     list: &mut [u16],
@@ -145,17 +150,21 @@ pub(crate) fn ask(
         return not_asked();
     }
     match which {
-        READ..=BUILD => ask_table(call, table, changes, &mut list[0..places]),
+        READ..=ATTACH => ask_table(call, table, expansion, changes, &mut list[0..places]),
         LOOK_UP => ask_diagram(call, diagram, changes, &mut list[0..places]),
         _ => not_asked(),
     }
 }
 
-fn ask_table(call: Call, line: &[u8], changes: &[u8], lent: &mut [u16]) -> Answer {
-    let mut list = [0; BYTES];
-    let size = input::make(line, b"table %", changes, &mut list);
+fn ask_table(
+    call: Call,
+    line: &[u8],
+    expansion: &[u8],
+    changes: &[u8],
+    lent: &mut [u16],
+) -> Answer {
     let mut bytes = [0; BYTES];
-    let size = input::to_bytes(&list, size, &mut bytes);
+    let size = input::make_bytes(line, b"table %", changes, &mut bytes);
     if size > BYTES {
         return not_asked();
     }
@@ -169,8 +178,26 @@ fn ask_table(call: Call, line: &[u8], changes: &[u8], lent: &mut [u16]) -> Answe
         RULE => ruling::rule(table, request, lent),
         READ_STANDARD => standard::read_standard(table),
         RULE_STANDARD => standard::rule_standard(table, request, lent),
-        _ => building::build(table, lent),
+        BUILD => building::build(table, lent),
+        _ => attach(table, expansion, lent),
     }
+}
+
+// The expansion of a line is attached to a base. The numbers of what is lent are lent as bytes.
+fn attach(base: &[u8], line: &[u8], lent: &mut [u16]) -> Answer {
+    let mut expansion = [0; BYTES];
+    let size = input::make_bytes(line, b"expansion %", b"", &mut expansion);
+    if size > BYTES {
+        return not_asked();
+    }
+    let mut bytes = [0; BYTES];
+    let room = input::to_bytes(lent, lent.len(), &mut bytes);
+    if room > BYTES {
+        return not_asked();
+    }
+    let answer = attaching::attach(base, &expansion[0..size], &mut bytes[0..room]);
+    input::to_numbers(&bytes, lent);
+    answer
 }
 
 fn ask_diagram(call: Call, line: &[u8], changes: &[u8], lent: &mut [u16]) -> Answer {

@@ -1,7 +1,11 @@
-// The table or the diagram of a case: what the last line with one says, with the case's changes.
+// The table, the expansion or the diagram of a case: what the last line with one says, with the case's changes.
 use crate::numbers::number;
 use crate::numbers::set;
+use crate::text::byte_at;
 use crate::text::scan;
+
+// Room for more bytes than a table has.
+pub(crate) const BYTES: usize = 1500;
 
 // The size of what is not understood, or has no room.
 const UNKNOWN: usize = 65536;
@@ -17,6 +21,13 @@ pub(crate) fn make(line: &[u8], pattern: &[u8], changes: &[u8], list: &mut [u16]
     } else {
         UNKNOWN
     }
+}
+
+// The same where the numbers are bytes.
+pub(crate) fn make_bytes(line: &[u8], pattern: &[u8], changes: &[u8], bytes: &mut [u8]) -> usize {
+    let mut list = [0; BYTES];
+    let size = make(line, pattern, changes, &mut list);
+    to_bytes(&list, size, bytes)
 }
 
 // A list of some size, or of the size that the changes begin with, is changed.
@@ -63,6 +74,15 @@ pub(crate) fn to_bytes(list: &[u16], size: usize, bytes: &mut [u8]) -> usize {
         at += 1;
     }
     size
+}
+
+// A list takes bytes as its numbers, as many as it has places.
+pub(crate) fn to_numbers(bytes: &[u8; BYTES], list: &mut [u16]) {
+    let mut at = 0;
+    while at < list.len() {
+        set(list, at, byte_at(bytes, at) as usize);
+        at += 1;
+    }
 }
 
 fn set_byte(bytes: &mut [u8], at: usize, value: usize) {

@@ -8,7 +8,7 @@ mod tally;
 mod text;
 
 // Room for more than the whole input.
-const ROOM: usize = 262144;
+const ROOM: usize = 524288;
 
 fn main() {
     let mut space = [0u8; ROOM];

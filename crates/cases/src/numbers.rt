@@ -19,6 +19,15 @@ pub(crate) fn set(list: &mut [u16], at: usize, value: usize) {
     }
 }
 
+// Each number of a list becomes another one, a byte that is not 0.
+pub(crate) fn mark(list: &mut [u16]) {
+    let mut at = 0;
+    while at < list.len() {
+        set(list, at, number(list, at) % 255 + 1);
+        at += 1;
+    }
+}
+
 // The first place before an end where two lists differ, or the end.
 pub(crate) fn first_difference(one: &[u16], other: &[u16], end: usize) -> usize {
     let mut at = 0;

@@ -3,6 +3,7 @@ use crate::calls;
 use crate::calls::Call;
 use crate::calls::PLACES;
 use crate::numbers::first_difference;
+use crate::numbers::mark;
 use crate::numbers::wide;
 use crate::tally::Tally;
 use crate::text::between;
@@ -12,12 +13,10 @@ use crate::text::scan;
 use answer::Answer;
 use std::num::wrapping_add_usize;
 
-// What each lent place holds before a call.
-const MARK: u16 = 9999;
-
-// Where the line with the last table and that with the last diagram begin, and what was counted.
+// Where the lines with the last table, the last expansion and the last diagram begin, and what was counted.
 struct State {
     table: usize,
+    expansion: usize,
     diagram: usize,
     tally: Tally,
 }
@@ -25,6 +24,7 @@ struct State {
 pub(crate) fn run(script: &[u8]) -> Tally {
     let mut state = State {
         table: 0,
+        expansion: 0,
         diagram: 0,
         tally: Tally::new(),
     };
@@ -41,7 +41,7 @@ pub(crate) fn run(script: &[u8]) -> Tally {
 }
 
 impl State {
-    // One line more: empty or a comment, a table, a diagram, or else a case.
+    // One line more: empty or a comment, a table, an expansion, a diagram, or else a case.
     fn line(mut self, script: &[u8], from: usize) -> Self {
         let line = line_at(script, from);
         if (line.len() == 0) | (byte_at(line, 0) == b'#') {
@@ -51,13 +51,19 @@ impl State {
             self.table = from;
             return self;
         }
+        if fits(line, b"expansion %") {
+            self.expansion = from;
+            return self;
+        }
         if fits(line, b"diagram *") {
             self.diagram = from;
             return self;
         }
         let tally = self.tally;
         let table = line_at(script, self.table);
-        self.tally = tested(tally, line, table, line_at(script, self.diagram));
+        let expansion = line_at(script, self.expansion);
+        let diagram = line_at(script, self.diagram);
+        self.tally = tested(tally, line, table, expansion, diagram);
         self
     }
 }
@@ -107,11 +113,15 @@ fn is_case(line: &[u8]) -> bool {
     (end_of(line, ANSWER) < line.len()) & (end_of(line, WRITTEN) == line.len())
 }
 
-// A case, with the lines of its table and its diagram: its call is made.
-fn tested(tally: Tally, line: &[u8], table: &[u8], diagram: &[u8]) -> Tally {
+// A case, with the lines of its table, its expansion and its diagram: its call is made. What is lent holds a mark before it
+// at each place, another number than the one that is due there.
+fn tested(tally: Tally, line: &[u8], table: &[u8], expansion: &[u8], diagram: &[u8]) -> Tally {
     let call = calls::named(part(line, CALL));
-    let mut lent = [MARK; PLACES];
-    let given = calls::ask(call, table, diagram, part(line, CHANGES), &mut lent);
+    let changes = part(line, CHANGES);
+    let mut lent = [0; PLACES];
+    scan(part(line, WRITTEN), b"*", &mut lent);
+    mark(&mut lent);
+    let given = calls::ask(call, table, expansion, diagram, changes, &mut lent);
     if given.number == calls::NOT_ASKED {
         return tally.not_understood(part(line, NAME));
     }

@@ -1,5 +1,6 @@
 // How many cases there are of each call, and how many differ.
 ghost use Prim.Native.Nat.{_<_};
+use crate::calls::ATTACH;
 use crate::calls::BUILD;
 use crate::calls::CALLS;
 use crate::calls::LOOK_UP;
@@ -71,6 +72,7 @@ impl Tally {
         print_call(b"read_standard:", counts, READ_STANDARD);
         print_call(b"rule_standard:", counts, RULE_STANDARD);
         print_call(b"build:", counts, BUILD);
+        print_call(b"attach:", counts, ATTACH);
         print_call(b"look_up:", counts, LOOK_UP);
         item(b"differences", counts[DIFFERENCES]);
         io::write_all(1, b"\n");
