@@ -1,8 +1,9 @@
 #!/usr/bin/env python3
-"""Writes three rule tables beside this script, the same bytes each time.
+"""Writes four rule tables beside this script, the same bytes each time.
 
 harbour.table           the small rulebook T of the requirements, 63 bytes
 harbour-standard.table  the same by the convention profile: its two rules beside a group have a group of their own
+scouts.table            an expansion for either of these: the scout may not attack
 rulebook.table          a rulebook of a whole game: 12 characters, 20 places, 10 deeds
 
 A group is one of the four combining ways over a list of groups and cards. A card is permit(number, ..) or
@@ -28,6 +29,12 @@ HARBOUR_STANDARD = """
 05 00 01 00 14 02 02 00 00 00 00
 00 00 02 00 00 01 01 00 01 01 01
 04 00 01 00 1E 00 02 01 01 00 01
+"""
+
+SCOUTS = """
+00 1C 01 02 01 01 00 02
+00 00 02 00 00 00 02 00 01 01 01
+05 00 01 00 28 00 00 00 01 00 01
 """
 
 # Subjects, resources and actions; cards speak of neighbours together.
@@ -242,4 +249,5 @@ if __name__ == "__main__":
     here = Path(__file__).parent
     (here / "harbour.table").write_bytes(bytes.fromhex(HARBOUR))
     (here / "harbour-standard.table").write_bytes(bytes.fromhex(HARBOUR_STANDARD))
+    (here / "scouts.table").write_bytes(bytes.fromhex(SCOUTS))
     (here / "rulebook.table").write_bytes(table(RULEBOOK))

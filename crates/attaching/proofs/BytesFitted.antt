@@ -1,14 +1,14 @@
 -- The bytes that attaching writes are a table that is the base with the expansion fitted to it.
 -- Assumes nothing.
 use mathlib.Core.Path.{_≡_, ap, ap₂, sym, _∙_}
-use mathlib.Core.List.{List, _++_}
+use mathlib.Core.List.{List}
 use Prim.Native.Nat.{ℕ, _+_, _-_, _*_, _≤_, _<_}
 use native.Mathlib.Omega.{arith}
 use lib.ListN.{length, drop, length-append, length-drop, List·getD-append}
 use lib.Seq.{getD-append-add, getD-drop}
 use Rattle.answer.specs.Fields.{fields}
 use Rattle.table.specs.Layout.{byte, word, maximum, count, header, recordSize, start, recordByte, recordWord, HeaderHeld}
-use Rattle.table.specs.Writing.{withWord, withBytesAfter, withCount}
+use Rattle.table.specs.Writing.{withBytesAfter, withCount}
 use Rattle.table.specs.WellFormed.{WellFormed}
 use Rattle.table.proofs.Places.{header-held}
 use Rattle.table.proofs.NumbersWritten.{length-with, word-written, byte-kept, word-kept-before}

@@ -1,8 +1,8 @@
 -- Laws of the bytes that are copied into a table, and of the three numbers that are then written.
 -- Assumes nothing.
-use mathlib.Core.Path.{_≡_, refl, sym, ap, ap₂, _∙_}
+use mathlib.Core.Path.{_≡_, sym, ap, ap₂, _∙_}
 use mathlib.Core.List.{List, _++_}
-use Prim.Native.Nat.{ℕ, _+_, _-_, _*_, _≤_, _<_}
+use Prim.Native.Nat.{ℕ, _+_, _-_, _≤_}
 use native.Mathlib.Omega.{arith}
 use lib.ListN.{length, take, drop, length-drop}
 use lib.Seq.{sets, take-all}
@@ -10,9 +10,8 @@ use Rattle.answer.specs.Fields.{fields}
 use Rattle.answer.specs.Answers.{zeros, padded}
 use Rattle.answer.proofs.Stored.{stored-join, stored-padded}
 use Rattle.table.specs.Layout.{header, recordSize, start, HeaderHeld, NodeHeld}
-use Rattle.table.specs.Writing.{withWord, withBytesAfter, withCount, withSpan}
+use Rattle.table.specs.Writing.{withBytesAfter, withCount, withSpan}
 use Rattle.table.specs.WellFormed.{WellFormed}
-use Rattle.table.proofs.Places.{header-held}
 use Rattle.table.proofs.NumbersWritten.{length-with, with-append}
 use Rattle.attaching.specs.Attached.{joined, nodes, attachedBytes}
 use Rattle.attaching.proofs.BytesFitted.{rest, length-joined, length-attached, root-there}

@@ -1,19 +1,18 @@
 -- Laws of refusals 17, 18 and 19 of two accepted tables, and what holds where none of them applies.
 -- Assumes nothing.
-use mathlib.Core.Path.{_≡_, refl, sym, ap, ap₂, _∙_}
+use mathlib.Core.Path.{_≡_, sym, ap, ap₂, _∙_}
 use mathlib.Core.Bool.{Bool, true, false, not, _||_}
 use mathlib.Core.List.{List}
 use Prim.Native.Nat.{ℕ, _+_, _≤_, _<_}
-use native.Mathlib.Omega.{arith}
 use borrow.Author.Tests.{lt-ltb, le-ltb, ltb-false, eq-eqb, ne-eqb, eqb-true, not-false, leb-false}
 use lib.Dec.{eqb, ltb, leb}
 use Rattle.answer.specs.Below.{someBelow}
 use Rattle.answer.specs.Fields.{fields}
 use Rattle.answer.specs.Refusals.{None}
-use Rattle.answer.proofs.Tests.{neither, or-true}
+use Rattle.answer.proofs.Tests.{neither}
 use Rattle.answer.proofs.Below.{some-where, some-more, none-each}
 use Rattle.table.specs.Layout.{version, maximum, count, kind}
-use Rattle.table.specs.Tree.{isRule, level, hasLevel}
+use Rattle.table.specs.Tree.{level, hasLevel}
 use Rattle.table.specs.WellFormed.{WellFormed}
 use Rattle.attaching.specs.Attached.{nodes, attachedBytes, headersDiffer, tooLarge, fitRefusals}
 use Rattle.attaching.proofs.BytesFitted.{count-all, bytes-fitted}

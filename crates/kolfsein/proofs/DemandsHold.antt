@@ -4,7 +4,7 @@ use mathlib.Core.Path.{_≡_, sym, ap, _∙_, subst}
 use mathlib.Core.Bool.{true, false, not}
 use mathlib.Core.Logic.{_↔_}
 use mathlib.Core.List.{List, _∷_, _++_}
-use Prim.Native.Nat.{ℕ, suc, _+_, _-_, _^_, _<_}
+use Prim.Native.Nat.{ℕ, _-_, _^_, _<_}
 use borrow.Author.Tests.{leb-false}
 use lib.ListN.{length}
 use Rattle.answer.specs.Fields.{fields}
@@ -13,7 +13,6 @@ use Rattle.answer.specs.Rulings.{Ruling, answerOf}
 use Rattle.answer.proofs.Settling.{answers}
 use Rattle.table.specs.Layout.{maximum, maxima, count, kind}
 use Rattle.table.specs.Ranges.{rangesWord}
-use Rattle.table.specs.Tree.{parent, level}
 use Rattle.table.specs.Reading.{tableRefusals, Accepted}
 use Rattle.table.proofs.Accepting.{accepted-reading}
 use Rattle.table.proofs.AcceptedIsWellFormed.{well-formed}
@@ -38,11 +37,10 @@ use Rattle.standard.specs.RulingStandard.{rulingStandardRefusals}
 use Rattle.standard.proofs.Accepting.{standard-accepted}
 use Rattle.standard.proofs.EqualAnswers.{equal-reading, equal-ruling}
 use Rattle.standard.proofs.GroupsAsPrinted.{rules-as-printed, groups-as-printed, empty-as-printed}
-use Rattle.attaching.specs.Attached.{attachedBytes, attachRefusals, Attaches}
+use Rattle.attaching.specs.Attached.{attachedBytes, attachRefusals}
 use Rattle.attaching.proofs.BytesFitted.{bytes-fitted}
-use Rattle.attaching.proofs.Trees as trees
-use Rattle.attaching.proofs.GroupsFitted as rulings
-use Rattle.attaching.proofs.AttachedIsFitted.{attached-base, attached-expansion, attached-fitted, attached-accepted}
+use Rattle.attaching.proofs.Trees.{ninth-level}
+use Rattle.attaching.proofs.AttachedIsFitted as attaching
 use Rattle.diagram.specs.Layout.{used}
 use Rattle.diagram.specs.LookUp.{ruledBy}
 use Rattle.diagram.specs.Sound.{Sound}
@@ -136,28 +134,6 @@ equal t u room other b c =
 succeeds : (t : List ℕ) (room : ℕ) → Accepted t → roomRefusal t room .when ≡ false → built t room .number ≡ 0
 succeeds t room c none = succeeds-exactly t room .1 (c, none-fits t room (none, tt))
 
--- paper 6: the tree of an attached table
-module _ (b e : List ℕ) (a : Attaches b e) where
-  abbrev t : List ℕ
-  t = attachedBytes b e
-
-  parents :
-      ((i : ℕ) → i < count b → parent t i ≡ parent b i)
-      × (parent t (count b) ≡ 0)
-      × ((i : ℕ) → 0 < i → i < count e → parent t (count b + i) ≡ count b + parent e i)
-  parents =
-      let v = attached-base b e a in
-      let w = attached-expansion b e a in
-      let f = attached-fitted b e a in
-      (trees.parent-base t b e v w f, trees.parent-attached t b e v w f, trees.parent-expansion t b e v w f)
-
-  levels : ((i : ℕ) → i < count b → level t i ≡ level b i) × ((i : ℕ) → i < count e → level t (count b + i) ≡ suc (level e i))
-  levels =
-      let v = attached-base b e a in
-      let w = attached-expansion b e a in
-      let f = attached-fitted b e a in
-      (trees.level-base t b e v w f, trees.level-expansion t b e v w f)
-
 pub demands-hold : Demands
 demands-hold =
     record {
@@ -176,7 +152,7 @@ demands-hold =
       attach-refuses =
           λ b e n. answers refused (zeros n) (counted (length (attachedBytes b e))) (padded (attachedBytes b e) n) (attachRefusals b e n);
       ninth-level =
-          λ b e c d. let v = well-formed b c in let w = well-formed e d in trees.ninth-level (attachedBytes b e) b e v w (bytes-fitted b e v w);
+          λ b e c d. let v = well-formed b c in let w = well-formed e d in ninth-level (attachedBytes b e) b e v w (bytes-fitted b e v w);
       unsound-refused = unsound;
       reading-counts = accepted-reading;
       build-counts = counts;
@@ -207,18 +183,16 @@ demands-hold =
       diagram-never-indeterminate =
           λ t e room b following q n l h.
           built-clear t following q n l e (sym (ap (λ d. lookedUp (d ++ following) q n .decision) (walked t room b)) ∙ h);
-      attached-accepted = attached-accepted;
-      attached-nodes = attached-fitted;
-      attached-last-child = λ b e a. trees.last-child (attachedBytes b e) b e (attached-base b e a) (attached-expansion b e a) (attached-fitted b e a);
-      attached-parents = parents;
-      attached-levels = levels;
-      attached-rules = λ b e a. rulings.groups-fitted (attachedBytes b e) b e (attached-accepted b e a) (a .base) (a .expansion) (attached-fitted b e a);
-      attached-rules-together =
-          λ b e a. rulings.together-fitted (attachedBytes b e) b e (attached-accepted b e a) (a .base) (a .expansion) (attached-fitted b e a);
-      attached-holds = λ b e a. rulings.groups-holding (attachedBytes b e) b e (attached-accepted b e a) (a .base) (a .expansion) (attached-fitted b e a);
-      attached-holds-together =
-          λ b e a. rulings.together-holding (attachedBytes b e) b e (attached-accepted b e a) (a .base) (a .expansion) (attached-fitted b e a);
-      attached-fails = λ b e a. rulings.groups-failing (attachedBytes b e) b e (attached-accepted b e a) (a .base) (a .expansion) (attached-fitted b e a);
+      attached-accepted = attaching.attached-accepted;
+      attached-nodes = attaching.attached-fitted;
+      attached-last-child = attaching.attached-last-child;
+      attached-parents = attaching.attached-parents;
+      attached-levels = attaching.attached-levels;
+      attached-rules = attaching.attached-rules;
+      attached-rules-together = attaching.attached-rules-together;
+      attached-holds = attaching.attached-holds;
+      attached-holds-together = attaching.attached-holds-together;
+      attached-fails = attaching.attached-fails;
       diagram-rules = through;
       equal-exactly = equal;
       decision-worded = λ t q c. sym (decision-as-worded t q c 0 (well-formed t c .some) (pass-root t (targetHolds t q)));

@@ -1,7 +1,7 @@
 -- The decision of a node that is reached, under targets that hold, is the one that documents 01 and 02 word: a group goes by its own target alone, and
 -- only rules by the targets above them too.
 -- Assumes nothing.
-use mathlib.Core.Path.{_≡_, refl, sym, ap, _∙_}
+use mathlib.Core.Path.{_≡_, refl, sym}
 use mathlib.Core.Bool.{Bool, true, false, cond}
 use mathlib.Core.List.{List}
 use Prim.Native.Nat.{ℕ, _<_}
@@ -16,7 +16,7 @@ use Rattle.ruling.specs.Meaning.{decision}
 use Rattle.ruling.specs.AsWorded.{holdsAsWorded, decisionAsWorded}
 use Rattle.ruling.specs.Walk.{HoldAbove}
 use Rattle.ruling.proofs.Applies.{applies-is, applies-above}
-use Rattle.ruling.proofs.Throughout.{pass-root, pass-after}
+use Rattle.ruling.proofs.Throughout.{pass-after}
 use Rattle.ruling.proofs.NodesAlike.{Agree, decision-same}
 
 module _ (t q : List ℕ) (w : WellFormed t) where
