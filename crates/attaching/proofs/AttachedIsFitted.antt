@@ -1,10 +1,12 @@
--- What the bytes that attaching writes mean, where the expansion can be fitted to the base: the table is accepted, it is the base with the expansion
+-- What attaching writes, where the expansion can be fitted to the base, and what it means: the table is accepted, it is the base with the expansion
 -- fitted to it, and so are its tree and what its groups give.
 -- Assumes nothing.
-use mathlib.Core.Path.{_≡_}
+use mathlib.Core.Path.{_≡_, refl, sym}
 use mathlib.Core.Bool.{true, false}
 use mathlib.Core.List.{List, [], _∷_, _++_}
-use Prim.Native.Nat.{ℕ, suc, _+_, _<_}
+use Prim.Native.Nat.{ℕ, suc, _+_, _≤_, _<_}
+use lib.ListN.{length}
+use Rattle.answer.specs.Answers.{counted, padded}
 use Rattle.combining.specs.Ways.{notApplicable}
 use Rattle.table.specs.Layout.{count}
 use Rattle.table.specs.Tree.{parent, level}
@@ -13,14 +15,15 @@ use Rattle.table.specs.WellFormed.{WellFormed}
 use Rattle.table.proofs.AcceptedIsWellFormed.{well-formed}
 use Rattle.ruling.specs.Forest.{childrenOf}
 use Rattle.ruling.specs.Targets.{targetHolds, applies}
-use Rattle.ruling.specs.Subjects.{member, appliesToSome}
+use Rattle.ruling.specs.Subjects.{mostSubjects, member, appliesToSome}
 use Rattle.ruling.specs.Ruling.{groups, groupsTogether}
-use Rattle.attaching.specs.Attached.{attachedBytes, Attaches}
+use Rattle.attaching.specs.Attached.{attachedBytes, Attaches, attached, attachedTable}
 use Rattle.attaching.specs.Fitted.{Fitted}
 use Rattle.attaching.specs.Meaning.{meaningWith, groupsWith, groupsTogetherWith}
 use Rattle.attaching.proofs.BytesFitted.{bytes-fitted}
 use Rattle.attaching.proofs.FitFaults.{none-fit}
 use Rattle.attaching.proofs.FittedIsAccepted.{fitted-accepted}
+use Rattle.attaching.proofs.AttachAnswers.{written}
 use Rattle.attaching.proofs.Trees as trees
 use Rattle.attaching.proofs.GroupsFitted as rulings
 
@@ -36,6 +39,10 @@ module _ (b e : List ℕ) (a : Attaches b e) where
 
   pub attached-fitted : Fitted t b e
   attached-fitted = bytes-fitted b e v w
+
+  pub attached-written : (n : ℕ) → length t ≤ n → (attached b e n ≡ counted (length t)) × (attachedTable b e n ≡ padded t n)
+  attached-written n l =
+      let h = written b e n (a .base) (a .expansion) (a .fit) (length t) refl (counted (length t)) (padded t n) l refl refl in (sym (h .0), sym (h .1))
 
   pub attached-accepted : Accepted t
   attached-accepted = fitted-accepted t b e (a .base) (a .expansion) attached-fitted (none-fit b e v w (a .fit))
@@ -65,7 +72,8 @@ module _ (b e : List ℕ) (a : Attaches b e) where
   pub attached-holds : (q : List ℕ) → targetHolds b q 0 ≡ true → groups t q ≡ meaningWith (applies b q) (applies e q) b e
   attached-holds = rulings.groups-holding t b e attached-accepted (a .base) (a .expansion) attached-fitted
 
-  pub attached-holds-together : (s : ℕ) (others : List ℕ) → ((k : ℕ) → member s k ≡ true → targetHolds b (k ∷ others) 0 ≡ true) →
+  pub attached-holds-together : (s : ℕ) (others : List ℕ) →
+      ((k : ℕ) → k < mostSubjects → member s k ≡ true → targetHolds b (k ∷ others) 0 ≡ true) →
       groupsTogether t s others ≡ meaningWith (appliesToSome b s others) (appliesToSome e s others) b e
   attached-holds-together = rulings.together-holding t b e attached-accepted (a .base) (a .expansion) attached-fitted
 

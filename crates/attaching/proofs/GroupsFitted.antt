@@ -231,7 +231,7 @@ module _ (t b e : List ℕ) (u : Accepted t) (c : Accepted b) (d : Accepted e) (
         meaning-fitted (appliesToSome t s others) (appliesToSome b s others) (appliesToSomeUnder b e s others) base-together expansion-together
 
     -- where the base root's target holds for each of them
-    pub together-holding : ((k : ℕ) → member s k ≡ true → targetHolds b (k ∷ others) 0 ≡ true) →
+    pub together-holding : ((k : ℕ) → k < mostSubjects → member s k ≡ true → targetHolds b (k ∷ others) 0 ≡ true) →
         groupsTogether t s others ≡ meaningWith (appliesToSome b s others) (appliesToSome e s others) b e
     unfolding appliesToSome
     together-holding h =
@@ -239,7 +239,7 @@ module _ (t b e : List ℕ) (u : Accepted t) (c : Accepted b) (d : Accepted e) (
         (λ i l.
         expansion-together i l
         ∙ some-same (λ k. member s k && appliesUnder b e (k ∷ others) i) (λ k. member s k && applies e (k ∷ others) i) mostSubjects
-        (λ k m. by (member s k) (targetHolds b (k ∷ others) 0) (applies e (k ∷ others) i) (h k)))
+        (λ k m. by (member s k) (targetHolds b (k ∷ others) 0) (applies e (k ∷ others) i) (h k m)))
       where
         by : (x y z : Bool) → (x ≡ true → y ≡ true) → (x && (y && z)) ≡ (x && z)
         by true y z g = ap (λ y. y && z) (g refl)

@@ -156,6 +156,7 @@ demands-hold =
       unsound-refused = unsound;
       reading-counts = accepted-reading;
       build-counts = counts;
+      attach-counts = λ b e n a. attaching.attached-written b e a n;
       question-ruled = question;
       question-accepted = λ t s others n. ruled-exactly t s others n (tableRefusals t);
       applies-worded = λ t s others i c l. applies-to-some-by-parents t s others c i l;

@@ -96,8 +96,7 @@ pub record Demands : Type 0 where
   pub look-up-refuses : (d q : List ℕ) (n : ℕ) →
       Answers (lookUpRefusals d q n) refused (zeros n) (answerOf (ruledBy d q) 0) (padded (ruledBy d q .cards) n) (lookedUp d q n) (lookedUpList d q n)
   -- paper 6, "17 when the base root is a rule, 18 when versions or maxima differ, 19 when the result has over 128 nodes or a ninth level, in this order
-  -- after both tables' own faults, the base first", 11 "last of all", "and refused output is zeros"; "The answer counts the bytes written; lent bytes
-  -- past them become 0"
+  -- after both tables' own faults, the base first", 11 "last of all", "and refused output is zeros"
   pub attach-refuses : (b e : List ℕ) (n : ℕ) →
       let t = attachedBytes b e in
       Answers (attachRefusals b e n) refused (zeros n) (counted (length t)) (padded t n) (attached b e n) (attachedTable b e n)
@@ -110,6 +109,10 @@ pub record Demands : Type 0 where
   pub reading-counts : (t : List ℕ) → Accepted t → reading t ≡ record { number = 0; decision = 0; place = 0; count = count t; subjects = 0 }
   pub build-counts : (t : List ℕ) (room : ℕ) → Builds t room →
       built t room ≡ record { number = 0; decision = 0; place = 0; count = used (builtDiagram t room); subjects = 0 }
+  -- paper 6, "The answer counts the bytes written; lent bytes past them become 0": where the expansion can be fitted and the bytes lent are enough
+  pub attach-counts : (b e : List ℕ) (n : ℕ) → Attaches b e → length (attachedBytes b e) ≤ n →
+      let t = attachedBytes b e in
+      (attached b e n ≡ record { number = 0; decision = 0; place = 0; count = length t; subjects = 0 }) × (attachedTable b e n ≡ padded t n)
   -- Demand 2: "Every accepted question gets the decision that the four combining ways give, as document 01 restates them, with every
   -- matching card in table order, the true count, and zeros in the rest of the list." Paper 1: "The accuracy rule now speaks of parties asked
   -- of a table", "The answer also gives how many figures the party has"
@@ -201,11 +204,11 @@ pub record Demands : Type 0 where
   pub attached-rules-together : (b e : List ℕ) → Attaches b e → (s : ℕ) (others : List ℕ) →
       groupsTogether (attachedBytes b e) s others ≡ groupsTogetherWith b e s others
   -- so of the expansion the same applies as without the base, where the base root's target holds, for a party for each of its figures; and where it
-  -- fails, "a group whose target fails gives none", with no card
+  -- fails, "A group whose target fails gives none", with no card
   pub attached-holds : (b e : List ℕ) → Attaches b e → (q : List ℕ) → targetHolds b q 0 ≡ true →
       groups (attachedBytes b e) q ≡ meaningWith (applies b q) (applies e q) b e
   pub attached-holds-together : (b e : List ℕ) → Attaches b e → (s : ℕ) (others : List ℕ) →
-      ((k : ℕ) → member s k ≡ true → targetHolds b (k ∷ others) 0 ≡ true) →
+      ((k : ℕ) → k < mostSubjects → member s k ≡ true → targetHolds b (k ∷ others) 0 ≡ true) →
       groupsTogether (attachedBytes b e) s others ≡ meaningWith (appliesToSome b s others) (appliesToSome e s others) b e
   pub attached-fails : (b e : List ℕ) → Attaches b e → (q : List ℕ) → targetHolds b q 0 ≡ false →
       groups (attachedBytes b e) q ≡ record { decision = notApplicable; cards = [] }
