@@ -7,3 +7,4 @@ pub mod Settling
 pub mod RequestRefusals
 pub mod Stored
 pub mod Cleared
+pub mod SameRuling

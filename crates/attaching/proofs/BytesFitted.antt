@@ -42,6 +42,7 @@ module _ (b e : List ℕ) where
       ∙ length-with sized (3 + fields) (nodes b e)
       ∙ length-with (joined b e) 0 rest
 
+  -- as the code sums it
   pub size-is : length b + (length e - header e) ≡ length table
   size-is = sym (length-attached ∙ length-joined)
 
@@ -54,10 +55,12 @@ module _ (b e : List ℕ) where
     unfolding start header recordSize
     length-all = omega (arith, length-attached, length-joined, v .records, w .records)
 
+    -- a number of two bytes
     pub size-small : length table < 65536
     unfolding start header recordSize
     size-small = omega (arith, length-attached, length-joined, v .records, w .records, v .few, w .few)
 
+    -- what was copied has the root's record
     pub root-there : start b 0 + 5 + 2 * fields ≤ length (joined b e)
     unfolding start header recordSize
     root-there = omega (arith, length-joined, v .records, w .records, v .some)

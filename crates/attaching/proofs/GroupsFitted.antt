@@ -10,7 +10,7 @@ use native.Mathlib.Nat.{eq-zero-or-pos}
 use native.Mathlib.Omega.{arith}
 use Rattle.answer.specs.Fields.{fields}
 use Rattle.answer.specs.Requests.{value}
-use Rattle.answer.specs.Rulings.{Ruling}
+use Rattle.answer.proofs.SameRuling.{same-ruling}
 use Rattle.answer.proofs.Tests.{lt-or-ge, both, passes-alike}
 use Rattle.answer.proofs.Below.{every-same, some-same}
 use Rattle.combining.specs.Ways.{notApplicable}
@@ -130,10 +130,7 @@ module _ (t b e : List ℕ) (u : Accepted t) (c : Accepted b) (d : Accepted e) (
         (λ i lo hi. f .expansion-nodes i hi .cards) (count e) 0 (omega arith) (omega arith))
 
     pub meaning-fitted : meaning a t ≡ meaningWith x y b e
-    meaning-fitted = ap₂ ruling decision-fitted cards-fitted
-      where
-        ruling : ℕ → List ℕ → Ruling
-        ruling k cs = record { decision = k; cards = cs }
+    meaning-fitted = same-ruling (meaning a t) (meaningWith x y b e) decision-fitted cards-fitted
 
   -- a node's target holds as that of the node that it is the same as
   target-same : (q : List ℕ) (i : ℕ) (s : List ℕ) (j : ℕ) → SameNode t i s j → targetHolds t q i ≡ targetHolds s q j
@@ -203,12 +200,10 @@ module _ (t b e : List ℕ) (u : Accepted t) (c : Accepted b) (d : Accepted e) (
   -- and nothing is given where it fails
   pub groups-failing : (q : List ℕ) → targetHolds b q 0 ≡ false → groups t q ≡ record { decision = notApplicable; cards = [] }
   groups-failing q h =
-      ap₂ ruling (gives-not (applies t q) t 0 (children (applies t q) t (under t 0)) (out 0 (well-formed t u .some)))
+      same-ruling (groups t q) (record { decision = notApplicable; cards = [] })
+      (gives-not (applies t q) t 0 (children (applies t q) t (under t 0)) (out 0 (well-formed t u .some)))
       (cards-skip (applies t q) t (count t) 0 (λ i l m. out i (omega arith)))
     where
-      ruling : ℕ → List ℕ → Ruling
-      ruling k cs = record { decision = k; cards = cs }
-
       out : (i : ℕ) → i < count t → applies t q i ≡ false
       out i l = applies-under t q 0 i (omega arith) (omega (arith, f .root-span)) (base-target q 0 (v .some) ∙ h)
 

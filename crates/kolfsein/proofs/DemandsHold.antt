@@ -9,8 +9,9 @@ use borrow.Author.Tests.{leb-false}
 use lib.ListN.{length}
 use Rattle.answer.specs.Fields.{fields}
 use Rattle.answer.specs.Answers.{refused, counted, ruled, zeros, padded}
-use Rattle.answer.specs.Rulings.{Ruling, answerOf}
+use Rattle.answer.specs.Rulings.{answerOf}
 use Rattle.answer.proofs.Settling.{answers}
+use Rattle.answer.proofs.SameRuling.{same-ruling}
 use Rattle.table.specs.Layout.{maximum, maxima, count, kind}
 use Rattle.table.specs.Ranges.{rangesWord}
 use Rattle.table.specs.Reading.{tableRefusals, Accepted}
@@ -113,10 +114,6 @@ module _ (t : List ℕ) (room : ℕ) (b : Builds t room) where
       let e = accepted-built t room (h .0) (h .1) in
       let places = diagram-used (maxima t) (groups t) (zeros (room - length (diagramOf t))) in
       e .0 ∙ ap counted (sym (ap used (e .1) ∙ places))
-
--- a ruling is its decision and its cards
-same-ruling : (r s : Ruling) → r .decision ≡ s .decision → r .cards ≡ s .cards → r ≡ s
-same-ruling r s e f = ap (λ d. record { decision = d; cards = r .cards }) e ∙ ap (λ cs. record { decision = s .decision; cards = cs }) f
 
 equal : (t u : List ℕ) (room other : ℕ) → Builds t room → Builds u other →
     (usedPart t room ≡ usedPart u other) ↔ ((maxima t ≡ maxima u) × RuleAlike t u)

@@ -1,8 +1,9 @@
 -- Document 01's cases "with *" and the worked examples of document 02, as one claim about the meanings themselves: a field for each case.
 -- Assumes nothing: these are definitions.
-use mathlib.Core.List.{List, [], _∷_}
+use mathlib.Core.List.{List, [], _∷_, _++_}
 use mathlib.Core.Path.{_≡_}
 use Prim.Native.Nat.{ℕ, zero, suc, _+_, _-_, _*_, _^_, _≤_, _<_}
+use lib.ListN.{drop}
 use Rattle.answer.specs.Answers.{refused, counted, ruled, zeros, padded}
 use Rattle.answer.specs.declared.Answer.{Answer}
 use Rattle.combining.specs.Kinds.{firstApplicableKind, onlyOneApplicableKind, permitOverridesKind, denyOverridesKind}
@@ -136,18 +137,14 @@ noScoutAttacks =
     ∷ 5 ∷ 0 ∷ 1 ∷ 0 ∷ 40 ∷ 0 ∷ 0 ∷ 0 ∷ 1 ∷ 0 ∷ 1
     ∷ []
 
--- T with that expansion's root as the last child of its root: "count, root span and length follow, all other bytes are copied"
-abbrev pub attachedT : List ℕ
+-- T with that expansion's root as the last child of its root: "count, root span and length follow", here in the header and the root's record, "all
+-- other bytes are copied", T's after these two and the expansion's after its header
+unfoldable pub attachedT : List ℕ
 attachedT =
-    0 ∷ 83 ∷ 1 ∷ 2 ∷ 1 ∷ 1 ∷ 0 ∷ 7
+    (0 ∷ 83 ∷ 1 ∷ 2 ∷ 1 ∷ 1 ∷ 0 ∷ 7
     ∷ 3 ∷ 0 ∷ 7 ∷ 0 ∷ 0 ∷ 0 ∷ 2 ∷ 0 ∷ 1 ∷ 0 ∷ 1
-    ∷ 4 ∷ 0 ∷ 1 ∷ 0 ∷ 10 ∷ 0 ∷ 2 ∷ 0 ∷ 1 ∷ 0 ∷ 0
-    ∷ 5 ∷ 0 ∷ 1 ∷ 0 ∷ 20 ∷ 2 ∷ 2 ∷ 0 ∷ 0 ∷ 0 ∷ 0
-    ∷ 0 ∷ 0 ∷ 2 ∷ 0 ∷ 0 ∷ 1 ∷ 1 ∷ 0 ∷ 1 ∷ 1 ∷ 1
-    ∷ 4 ∷ 0 ∷ 1 ∷ 0 ∷ 30 ∷ 0 ∷ 2 ∷ 1 ∷ 1 ∷ 0 ∷ 1
-    ∷ 0 ∷ 0 ∷ 2 ∷ 0 ∷ 0 ∷ 0 ∷ 2 ∷ 0 ∷ 1 ∷ 1 ∷ 1
-    ∷ 5 ∷ 0 ∷ 1 ∷ 0 ∷ 40 ∷ 0 ∷ 0 ∷ 0 ∷ 1 ∷ 0 ∷ 1
-    ∷ []
+    ∷ [])
+    ++ (drop 19 (tableT 3) ++ drop 8 noScoutAttacks)
 
 -- a group over n more nodes, for value 0 of each field
 abbrev groupFor0 : ℕ → List ℕ → List ℕ
@@ -304,7 +301,8 @@ pub record Cases : Type 0 where
   pub t-attached-in-87 : GivesTable (tableT 3) noScoutAttacks 87 (counted 85) (padded attachedT 87)
   -- "11 is also returned where the lent output is too short", "and refused output is zeros"
   pub t-attached-in-84 : GivesTable (tableT 3) noScoutAttacks 84 (refused 11 0) (zeros 84)
-  -- what it gives: the expansion's card after T's, and for a party of scout and captain both
+  -- what it then gives: the scout's attack is denied by the expansion's card, scout and captain together get T's card and then the expansion's, and
+  -- trade is as in T
   pub t-attached-0-1-1 : GivesRuling attachedT (only 0) (1 ∷ 1 ∷ []) 2 (ruled deny 1 1) (40 ∷ 0 ∷ [])
   pub t-attached-0-1-attack : GivesRuling attachedT (only 0 + only 1) (1 ∷ 1 ∷ []) 3 (ruled deny 2 2) (30 ∷ 40 ∷ 0 ∷ [])
   pub t-attached-0-0-0 : GivesRuling attachedT (only 0) (0 ∷ 0 ∷ []) 2 (ruled permit 1 1) (10 ∷ 0 ∷ [])

@@ -1,6 +1,6 @@
 -- Laws of the cards of matching rules among nodes that follow one another, for any test of which nodes apply.
 -- Assumes nothing.
-use mathlib.Core.Path.{_≡_, refl, sym, ap, _∙_}
+use mathlib.Core.Path.{_≡_, refl, ap, _∙_}
 use mathlib.Core.Bool.{Bool, true, false, cond, _&&_}
 use mathlib.Core.List.{List, [], _∷_, _++_}
 use Prim.Native.Nat.{ℕ, zero, suc, _+_, _≤_, _<_}
@@ -11,6 +11,7 @@ use lib.ListN.{length}
 use Rattle.answer.proofs.Tests.{and-false}
 use Rattle.table.specs.Layout.{kind, card}
 use Rattle.ruling.specs.Meaning.{matches, cardsFrom}
+use Rattle.ruling.proofs.Listed.{listed-join}
 
 module _ (a : ℕ → Bool) (t : List ℕ) where
   pub matches-rule : (i : ℕ) → a i ≡ true → 4 ≤ kind t i → matches a t i ≡ true
@@ -41,22 +42,7 @@ module _ (a : ℕ → Bool) (t : List ℕ) where
 
   -- the cards of nodes, and then of those after them
   pub cards-join : (m n i : ℕ) → cardsFrom a t i (m + n) ≡ cardsFrom a t i m ++ cardsFrom a t (i + m) n
-  cards-join zero n i =
-      let z : i ≡ i + 0 = omega arith in
-      let y : 0 + n ≡ n = omega arith in
-      ap (cardsFrom a t i) y ∙ ap (λ j. cardsFrom a t j n) z ∙ ap (λ cs. cs ++ cardsFrom a t (i + 0) n) (sym (cards-none i))
-  cards-join (suc m) n i =
-      let z : i + 1 + m ≡ i + suc m = omega arith in
-      let y : suc m + n ≡ suc (m + n) = omega arith in
-      ap (cardsFrom a t i) y ∙ by (matches a t i) refl (cards-join m n (i + 1) ∙ ap (λ j. cardsFrom a t (i + 1) m ++ cardsFrom a t j n) z)
-    where
-      by : (b : Bool) → matches a t i ≡ b → cardsFrom a t (i + 1) (m + n) ≡ cardsFrom a t (i + 1) m ++ cardsFrom a t (i + suc m) n →
-          cardsFrom a t i (suc (m + n)) ≡ cardsFrom a t i (suc m) ++ cardsFrom a t (i + suc m) n
-      by true e h =
-          cards-more i (m + n) true e ∙ ap (λ cs. card t i ∷ cs) h
-          ∙ ap (λ cs. cs ++ cardsFrom a t (i + suc m) n) (sym (cards-more i m true e))
-      by false e h =
-          cards-more i (m + n) false e ∙ h ∙ ap (λ cs. cs ++ cardsFrom a t (i + suc m) n) (sym (cards-more i m false e))
+  cards-join = listed-join (cardsFrom a t) (matches a t) (card t) cards-none cards-more
 
   -- no more cards than nodes
   pub cards-few : (n i : ℕ) → length (cardsFrom a t i n) ≤ n

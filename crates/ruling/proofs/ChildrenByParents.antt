@@ -19,6 +19,7 @@ use Rattle.table.proofs.Tree.{parent-below, parent-reaches}
 use Rattle.table.proofs.ParentsAndSpansAgree.{parent-over}
 use Rattle.ruling.specs.Forest.{node, run, under, childrenFrom, childrenOf, trees}
 use Rattle.ruling.proofs.Forest.{run-none, run-more}
+use Rattle.ruling.proofs.Listed.{listed-join}
 
 -- P holds of each number of a list
 abbrev pub EachOf : (ℕ → Type 0) → List ℕ → Type 0
@@ -58,21 +59,7 @@ module _ (t : List ℕ) (i : ℕ) where
 
   -- the children among nodes, and then among those after them
   pub children-join : (m n j : ℕ) → childrenFrom t i j (m + n) ≡ childrenFrom t i j m ++ childrenFrom t i (j + m) n
-  children-join zero n j =
-      let z : j ≡ j + 0 = omega arith in
-      let y : 0 + n ≡ n = omega arith in
-      ap (childrenFrom t i j) y ∙ ap (λ k. childrenFrom t i k n) z ∙ ap (λ js. js ++ childrenFrom t i (j + 0) n) (sym (none j))
-  children-join (suc m) n j =
-      let z : j + 1 + m ≡ j + suc m = omega arith in
-      let y : suc m + n ≡ suc (m + n) = omega arith in
-      ap (childrenFrom t i j) y
-      ∙ by (eqb (parent t j) i) refl (children-join m n (j + 1) ∙ ap (λ k. childrenFrom t i (j + 1) m ++ childrenFrom t i k n) z)
-    where
-      by : (b : Bool) → eqb (parent t j) i ≡ b → childrenFrom t i (j + 1) (m + n) ≡ childrenFrom t i (j + 1) m ++ childrenFrom t i (j + suc m) n →
-          childrenFrom t i j (suc (m + n)) ≡ childrenFrom t i j (suc m) ++ childrenFrom t i (j + suc m) n
-      by true e h =
-          more j (m + n) true e ∙ ap (λ js. j ∷ js) h ∙ ap (λ js. js ++ childrenFrom t i (j + suc m) n) (sym (more j m true e))
-      by false e h = more j (m + n) false e ∙ h ∙ ap (λ js. js ++ childrenFrom t i (j + suc m) n) (sym (more j m false e))
+  children-join = listed-join (childrenFrom t i) (λ j. eqb (parent t j) i) (λ j. j) none more
 
   -- a first child, and none after it
   pub children-one : (j n : ℕ) → parent t j ≡ i → ((k : ℕ) → j < k → k < j + suc n → parent t k ≡ i → ⊥) → childrenFrom t i j (suc n) ≡ j ∷ []

@@ -18,6 +18,7 @@ pub mod SubjectsByParents
 pub mod ChildrenByParents
 pub mod DecisionByChildren
 pub mod CardsOfMatchingRules
+pub mod Listed
 pub mod NodesAlike
 pub mod RulingGoesByWhichApply
 pub mod OneSubject

@@ -7,14 +7,14 @@ use Prim.Native.Nat.{ℕ, _+_, _-_, _≤_, _<_}
 use native.Mathlib.Omega.{arith}
 use lib.ListN.{length}
 use lib.Seq.{sets}
-use Rattle.answer.specs.Rulings.{Ruling}
+use Rattle.answer.proofs.SameRuling.{same-ruling}
 use Rattle.table.specs.Layout.{count}
 use Rattle.table.specs.Tree.{endOf}
 use Rattle.table.specs.Reading.{Accepted}
 use Rattle.table.specs.WellFormed.{WellFormed}
 use Rattle.table.proofs.AcceptedIsWellFormed.{well-formed}
 use Rattle.ruling.specs.Targets.{applies}
-use Rattle.ruling.specs.Meaning.{decision, cardsFrom, cards, meaning}
+use Rattle.ruling.specs.Meaning.{decision, cardsFrom, meaning}
 use Rattle.ruling.specs.Ruling.{groups}
 use Rattle.ruling.specs.Walk.{Gathered}
 use Rattle.ruling.proofs.NodesAlike.{Agree, decision-same, cards-same}
@@ -56,11 +56,8 @@ module _ (a b : ℕ → Bool) (t : List ℕ) (w : WellFormed t) where
   meaning-same same =
       let each : (i : ℕ) → 0 ≤ i → i < count t → a i ≡ b i = λ i lo hi. same i hi in
       let within : count t ≤ count t = omega arith in
-      ap (λ d. ruling d (cards a t)) (same-decision within each 0 (omega arith) (w .some) (omega (arith, w .root)))
-      ∙ ap (ruling (decision b t 0)) (same-cards within each (count t) 0 (omega arith) (omega arith))
-    where
-      ruling : ℕ → List ℕ → Ruling
-      ruling d cs = record { decision = d; cards = cs }
+      same-ruling (meaning a t) (meaning b t) (same-decision within each 0 (omega arith) (w .some) (omega (arith, w .root)))
+      (same-cards within each (count t) 0 (omega arith) (omega arith))
 
 -- two requests to which the same nodes apply get the same ruling
 pub groups-same : (t q r : List ℕ) → Accepted t → ((i : ℕ) → i < count t → applies t q i ≡ applies t r i) → groups t q ≡ groups t r

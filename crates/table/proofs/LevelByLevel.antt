@@ -19,7 +19,7 @@ use Rattle.table.specs.WellFormed.{WellFormed}
 use Rattle.table.proofs.Climb.{After, ParentOpen, climbed, opened, after-opened, after-leaf, level-below}
 
 module _ (t : List ℕ) (n : ℕ) where
-  -- Before node i: all nodes before it are on higher levels, and the list is of the nodes that are open.
+  -- Before node i: no node before it is on the last level, and the list is of the nodes that are open.
   pub record Searched (ends : List ℕ) (depth i : ℕ) : Type 0 where
     pub whole : n ≡ count t
     pub inside : i ≤ n

@@ -20,8 +20,7 @@ use Rattle.table.specs.Tree.{isRule, endOf, parent, level, itself}
 use Rattle.table.specs.Open.{deepest, EndAbove}
 use Rattle.table.specs.Conformance.{asksForRules, ruleAsked, nodeConforms, conforms}
 use Rattle.table.specs.Reading.{headerRefusals, nodeRefusals, reading}
-use Rattle.table.proofs.Tree.{level-root, level-child}
-use Rattle.table.proofs.Climb.{Open, open-above, After, ParentOpen, climbed, opened, after-opened, after-leaf}
+use Rattle.table.proofs.Climb.{Open, open-above, After, ParentOpen, climbed, opened, after-opened, after-leaf, level-below}
 use Rattle.table.proofs.Good.{good, ends-inside}
 use Rattle.table.proofs.Accepting.{passed-accepted, node-refused, accepted-reading}
 
@@ -82,6 +81,9 @@ module _ {t : List ℕ} {n : ℕ} {ends : List ℕ} {rules : List Bool} {conform
       climbed t ends (Open t (asksForRules t) false rules) (λ q a u o. open-above t (asksForRules t) false rules o u) depth r i (s .last h l)
       (omega (arith, s .whole, s .root h)) e
 
+  on-level : (i : ℕ) → Passed t n ends rules conforming depth i → i < n → r ≡ deepest ends i depth → level t i ≡ r + 1
+  on-level i s l e = level-below t r i (λ z. e ∙ ap (deepest ends i) (s .first z)) (λ h. up i s l e h .0)
+
   -- the open nodes tell where the nodes that node i stands among end, its level, and what is asked for there
   pub found : (i : ℕ) → Passed t n ends rules conforming depth i → i < n → r ≡ deepest ends i depth →
       EndAbove t i (getD ends r 0) × (level t i ≡ r + 1) × (getD rules r false ≡ ruleAsked t i)
@@ -89,7 +91,7 @@ module _ {t : List ℕ} {n : ℕ} {ends : List ℕ} {rules : List Bool} {conform
   found zero s l e =
       let z : r ≡ 0 = e ∙ ap (deepest ends 0) (s .first refl) in (
         record { root = λ _. ap (λ k. getD ends k 0) z ∙ s .table; child = λ h. absurd (omega arith) },
-        omega (arith, level-root t),
+        on-level 0 s l e,
         ap (λ k. getD rules k false) z ∙ s .group,
       )
   found (suc p) s l e =
@@ -99,7 +101,7 @@ module _ {t : List ℕ} {n : ℕ} {ends : List ℕ} {rules : List Bool} {conform
           root = λ h. absurd (omega arith);
           child = λ _. ap (λ k. getD ends k 0) (u .0) ∙ u .1 .0 .held (parent t (suc p)) itself;
         },
-        omega (arith, u .0, level-child t (suc p) h),
+        on-level (suc p) s l e,
         ap (λ k. getD rules k false) (u .0)
             ∙ u .1 .1 .held (parent t (suc p)) itself
             ∙ sym (ap (λ b. cond b false (asksForRules t (parent t (suc p)))) (ne-eqb (suc p) 0 (λ q. omega arith))),
@@ -107,11 +109,11 @@ module _ {t : List ℕ} {n : ℕ} {ends : List ℕ} {rules : List Bool} {conform
 
   -- node i passes too
   module _ {i : ℕ} (s : Passed t n ends rules conforming depth i) (l : i < n) (er : r ≡ deepest ends i depth) (ef : None (nodeRefusals t i)) where
-    on-level : level t i ≡ r + 1
-    on-level = found i s l er .1
+    here : level t i ≡ r + 1
+    here = on-level i s l er
 
     shallow : r + 1 ≤ 8
-    shallow = omega (arith, on-level, good t i ef .levels)
+    shallow = omega (arith, here, good t i ef .levels)
 
     root-whole : span t 0 ≡ count t
     root-whole = ⊎-elim (λ (z : i ≡ 0). ap (span t) (sym z) ∙ good t i ef .root z) (λ (z : 0 < i). s .root z) (eq-zero-or-pos i)
@@ -151,9 +153,9 @@ module _ {t : List ℕ} {n : ℕ} {ends : List ℕ} {rules : List Bool} {conform
           went-on shallow (length-set ends (r + 1) end ∙ s .size, length-set rules (r + 1) asks ∙ s .rules-size)
           (getD-set-other ends (r + 1) 0 end 0 (λ q. omega arith), getD-set-other rules (r + 1) 0 asks false (λ q. omega arith))
           (λ m.
-          after-opened t (set ends (r + 1) end) (Open t (asksForRules t) false (set rules (r + 1) asks)) r i on-level
-          (opened t (endOf t) 0 ends i r end (s .size) on-level (omega (arith, shallow)) ee (λ h. up i s l er h .1 .0))
-          (opened t (asksForRules t) false rules i r asks (s .rules-size) on-level (omega (arith, shallow)) ea (λ h. up i s l er h .1 .1)))
+          after-opened t (set ends (r + 1) end) (Open t (asksForRules t) false (set rules (r + 1) asks)) r i here
+          (opened t (endOf t) 0 ends i r end (s .size) here (omega (arith, shallow)) ee (λ h. up i s l er h .1 .0))
+          (opened t (asksForRules t) false rules i r asks (s .rules-size) here (omega (arith, shallow)) ea (λ h. up i s l er h .1 .1)))
 
       -- node i holds nothing: its parent stays the deepest that is open
       pub next : span t i ≤ 1 → Passed t n ends rules (conforming && Bool·beq rule (getD rules r false)) r (i + 1)
