@@ -87,8 +87,8 @@ module _ (t b e : List ℕ) (c : Accepted b) (d : Accepted e) (f : Fitted t b e)
         root = λ z. ap (span t) z ∙ f .root-span;
         inside = λ z. base-under i z l;
         levels = omega (arith, level-base t b e v w f i l, v .levels i l);
-        rising = λ k h. omega (arith, s .lows k h, s .highs k h, v .rising i k l h);
-        within = λ k h. omega (arith, s .highs k h, f .maxima k h, v .within i k l h);
+        low-within = λ k h. omega (arith, s .lows k h, f .maxima k h, v .low-within i k l h);
+        high-within = λ k h. omega (arith, s .highs k h, f .maxima k h, v .high-within i k l h);
         carded = λ h. omega (arith, s .cards, v .carded i l (omega (arith, s .kinds)));
         plain = λ h. s .cards ∙ v .plain i l (omega (arith, s .kinds));
       }
@@ -104,8 +104,8 @@ module _ (t b e : List ℕ) (c : Accepted b) (d : Accepted e) (f : Fitted t b e)
         root = λ z. absurd (omega (arith, v .some));
         inside = λ z. expansion-under i l;
         levels = omega (arith, level-expansion t b e v w f i l, g .shallow i l);
-        rising = λ k h. omega (arith, s .lows k h, s .highs k h, w .rising i k l h);
-        within = λ k h. omega (arith, s .highs k h, f .maxima k h, g .maxima k h, w .within i k l h);
+        low-within = λ k h. omega (arith, s .lows k h, f .maxima k h, g .maxima k h, w .low-within i k l h);
+        high-within = λ k h. omega (arith, s .highs k h, f .maxima k h, g .maxima k h, w .high-within i k l h);
         carded = λ h. omega (arith, s .cards, w .carded i l (omega (arith, s .kinds)));
         plain = λ h. s .cards ∙ w .plain i l (omega (arith, s .kinds));
       }

@@ -1,12 +1,10 @@
--- Laws of a value in a range, and of a target whose fields after the first are tested one by one, one for each way through the code.
+-- Laws of a target whose fields after the first are tested one by one, one for each way through the code.
 -- Assumes nothing.
 use mathlib.Core.Path.{_≡_, sym, ap, ap₂, _∙_}
 use mathlib.Core.Bool.{Bool, true, false, _&&_}
 use mathlib.Core.List.{List, _∷_}
-use Prim.Native.Nat.{ℕ, suc, _+_, _-_, _≤_, _<_}
+use Prim.Native.Nat.{ℕ, suc, _+_, _-_, _<_}
 use native.Mathlib.Numerals.{add-one}
-use borrow.Author.Tests.{le-leb, lt-leb}
-use lib.Dec.{leb}
 use Rattle.answer.specs.Fields.{fields}
 use Rattle.answer.specs.Requests.{value}
 use Rattle.answer.specs.Below.{everyBelow}
@@ -15,14 +13,6 @@ use Rattle.table.specs.Layout.{low, high}
 use Rattle.table.specs.Ranges.{lowOf, highOf}
 use Rattle.ruling.specs.Targets.{inRange, fieldHolds, targetHolds, fieldHoldsFrom}
 use Rattle.ruling.specs.Walk.{othersHold, othersHoldFrom}
-
-pub in-range-high : (low high v : ℕ) → low ≤ v → leb v high ≡ inRange low high v
-unfolding inRange
-in-range-high low high v l = sym (ap (λ b. b && leb v high) (le-leb low v l))
-
-pub in-range-low : (low high v : ℕ) → v < low → false ≡ inRange low high v
-unfolding inRange
-in-range-low low high v l = sym (ap (λ b. b && leb v high) (lt-leb low v l))
 
 -- a target holds for a subject in its range of subjects, where the other values lie in their ranges
 pub target-parts : (t others : List ℕ) (i k : ℕ) → targetHolds t (k ∷ others) i ≡ inRange (low t i 0) (high t i 0) k && othersHold t others i

@@ -1,5 +1,6 @@
 -- What the proofs of several functions use, and the theorems about ruling.
 pub mod Forest
+pub mod InRange
 pub mod FieldByField
 pub mod TargetFromWord
 pub mod SubjectsInRange

@@ -8,58 +8,61 @@ use Prim.Native.Nat.{ℕ, _+_, _-_, _*_, _/_, _%_, _^_, _≤_, _<_}
 use native.Mathlib.Nat.{div-one}
 use native.Mathlib.Omega.{arith}
 use borrow.Author.Tests.{lt-leb, le-leb, lt-ltb, le-ltb}
-use lib.Bits.{bitAnd}
+use lib.Bits.{bitAnd, bitOr}
 use lib.Count.{trailingZeros}
 use lib.Dec.{leb, ltb}
 use Rattle.answer.specs.Below.{someBelow}
 use Rattle.answer.proofs.Below.{some-where, some-none}
 use Rattle.answer.proofs.Tests.{lt-or-ge, and-true, and-false}
 use Rattle.sets.specs.Sets.{bit, Next}
-use Rattle.sets.proofs.WordPlaces.{bit-and, bit-zero, bit-none, bit-past, bit-all, bit-shifted, bit-left}
+use Rattle.sets.proofs.WordPlaces.{bit-and, bit-or, bit-zero, bit-none, bit-past, bit-all, bit-shifted, bit-left}
 use Rattle.sets.proofs.NextNumber.{next-within, next-some}
 use Rattle.table.specs.Layout.{low, high}
 use Rattle.ruling.specs.Targets.{inRange, targetHolds}
 use Rattle.ruling.specs.Subjects.{mostSubjects, member, someMember, subjectsFault}
 use Rattle.ruling.specs.Walk.{othersHold}
-use Rattle.ruling.proofs.FieldByField.{in-range-low, target-parts}
+use Rattle.ruling.proofs.FieldByField.{target-parts}
+use Rattle.ruling.proofs.InRange.{in-plain, in-wrapped}
 
 -- every place of a word is set
 abbrev all : ℕ
 all = 18446744073709551615
 
--- the set of a range is right about every subject that a set can have
-abbrev pub InRangeSet : ℕ → ℕ → ℕ → Type 0
-InRangeSet r low high = (k : ℕ) → k < mostSubjects → member r k ≡ inRange low high k
+-- a set is right about every subject that a set can have: it has those that pass a test
+abbrev pub SetOf : ℕ → (ℕ → Bool) → Type 0
+SetOf r test = (k : ℕ) → k < mostSubjects → member r k ≡ test k
 
 -- no subject that a set can have is as high as the low end
-pub range-past : (low high : ℕ) → 64 ≤ low → InRangeSet 0 low high
-range-past low high l k m = bit-zero k ∙ in-range-low low high k (omega arith)
+pub none-from : (low : ℕ) → 64 ≤ low → SetOf 0 (leb low)
+none-from low l k m = bit-zero k ∙ sym (lt-leb low k (omega arith))
 
--- the places from i up
-from-place : (i k : ℕ) → k < 64 → member (all * 2 ^ i % 2 ^ 64) k ≡ leb i k
-from-place i k m =
-    bit-left all i k
-    ∙ ap₂ (λ a b. (leb i k && a) && b) (bit-all 64 (k - i) ∙ lt-ltb (k - i) 64 (omega arith)) (lt-ltb k 64 m)
-    ∙ and-true (leb i k && true) ∙ and-true (leb i k)
+-- the places from the low end up
+pub set-from : (low : ℕ) → SetOf (all * 2 ^ low % 2 ^ 64) (leb low)
+set-from low k m =
+    bit-left all low k
+    ∙ ap₂ (λ a b. (leb low k && a) && b) (bit-all 64 (k - low) ∙ lt-ltb (k - low) 64 (omega arith)) (lt-ltb k 64 m)
+    ∙ and-true (leb low k && true) ∙ and-true (leb low k)
 
 -- the high end is past all that a set can have
-pub range-open : (low high : ℕ) → 63 ≤ high → InRangeSet (all * 2 ^ low % 2 ^ 64) low high
-unfolding inRange
-range-open low high l k m = from-place low k m ∙ sym (ap (λ b. leb low k && b) (le-leb k high (omega arith)) ∙ and-true (leb low k))
+pub all-up-to : (high : ℕ) → 63 ≤ high → SetOf all (λ k. leb k high)
+all-up-to high l k m = bit-all 64 k ∙ lt-ltb k 64 m ∙ sym (le-leb k high (omega arith))
 
--- both ends count; n is how far the high end is from the last place
-pub range-closed : (low high n : ℕ) → n + high ≡ 63 → InRangeSet (bitAnd (all * 2 ^ low % 2 ^ 64) (all / 2 ^ n)) low high
-unfolding inRange
-range-closed low high n e k m =
-    bit-and (all * 2 ^ low % 2 ^ 64) (all / 2 ^ n) k
-    ∙ ap₂ (λ a b. a && b) (from-place low k m) (bit-shifted all n k ∙ bit-all 64 (n + k) ∙ upto)
-  where
-    upto : ltb (n + k) 64 ≡ leb k high
-    upto =
-        ⊎-elim
-        (λ (l : n + k < 64). lt-ltb (n + k) 64 l ∙ sym (le-leb k high (omega arith)))
-        (λ (l : 64 ≤ n + k). le-ltb (n + k) 64 l ∙ sym (lt-leb k high (omega arith)))
-        (lt-or-ge (n + k) 64)
+-- the places up to the high end, which is n before the last
+pub set-up-to : (high n : ℕ) → n + high ≡ 63 → SetOf (all / 2 ^ n) (λ k. leb k high)
+set-up-to high n e k m =
+    bit-shifted all n k ∙ bit-all 64 (n + k)
+    ∙ ⊎-elim
+    (λ (l : n + k < 64). lt-ltb (n + k) 64 l ∙ sym (le-leb k high (omega arith)))
+    (λ (l : 64 ≤ n + k). le-ltb (n + k) 64 l ∙ sym (lt-leb k high (omega arith)))
+    (lt-or-ge (n + k) 64)
+
+-- the set of a range, from those of its ends
+module _ (low high a b : ℕ) (from-low : SetOf a (leb low)) (up-to-high : SetOf b (λ k. leb k high)) where
+  pub set-plain : low ≤ high → SetOf (bitAnd a b) (inRange low high)
+  set-plain l k m = bit-and a b k ∙ ap₂ (λ x y. x && y) (from-low k m) (up-to-high k m) ∙ sym (in-plain low high k l)
+
+  pub set-wrapped : high < low → SetOf (bitOr a b) (inRange low high)
+  set-wrapped l k m = bit-or a b k ∙ ap₂ (λ x y. x || y) (from-low k m) (up-to-high k m) ∙ sym (in-wrapped low high k l)
 
 -- the members that are left of a set
 module _ (t others : List ℕ) (i s : ℕ) (b : Bool) (e : b ≡ othersHold t others i) where
@@ -73,7 +76,7 @@ module _ (t others : List ℕ) (i s : ℕ) (b : Bool) (e : b ≡ othersHold t ot
       ∙ and-false (member s k))
 
   -- where the other values lie in their ranges: those in the range of subjects
-  pub left-some : b ≡ true → s < 2 ^ 64 → (r : ℕ) → InRangeSet r (low t i 0) (high t i 0) →
+  pub left-some : b ≡ true → s < 2 ^ 64 → (r : ℕ) → SetOf r (inRange (low t i 0) (high t i 0)) →
       (k : ℕ) → member (bitAnd s r) k ≡ member s k && targetHolds t (k ∷ others) i
   left-some y fits r is k =
       bit-and s r k ∙ ⊎-elim within past (lt-or-ge k 64)

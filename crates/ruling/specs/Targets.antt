@@ -1,6 +1,6 @@
 -- When a target holds, and when a node applies, as document 01 words it under "How a table rules".
 -- Assumes nothing: these are definitions.
-use mathlib.Core.Bool.{Bool, not, _&&_, _||_}
+use mathlib.Core.Bool.{Bool, not, cond, _&&_, _||_}
 use mathlib.Core.List.{List}
 use Prim.Native.Nat.{ℕ, suc}
 use lib.Dec.{leb, ltb}
@@ -11,9 +11,9 @@ use Rattle.table.specs.Layout.{low, high}
 use Rattle.table.specs.Ranges.{lowOf, highOf}
 use Rattle.table.specs.Tree.{endOf}
 
--- "low and high [..], both ends included": the value lies in the range
+-- "low and high [..], both ends included": the value lies in the range; paper 7, "A low above its high now means values from low upward or up to high"
 unfoldable pub inRange : ℕ → ℕ → ℕ → Bool
-inRange low high value = leb low value && leb value high
+inRange low high value = cond (ltb high low) (leb low value || leb value high) (leb low value && leb value high)
 
 -- the value of field f lies in node i's range
 abbrev pub fieldHolds : List ℕ → List ℕ → ℕ → ℕ → Bool

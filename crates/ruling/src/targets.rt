@@ -2,6 +2,8 @@
 use answer::OTHERS;
 use sets::WORD;
 use sets::next_at;
+use std::num::wrapping_sub_u16;
+use std::num::wrapping_sub_u8;
 use table::layout::high_of;
 use table::layout::low_of;
 use table::layout::ranges_at;
@@ -9,6 +11,7 @@ ghost use mathlib.Core.Path.{_≡_};
 ghost use mathlib.Core.Bool.{_&&_};
 ghost use mathlib.Core.List.{_∷_};
 ghost use Prim.Native.Nat.{ℕ, _<_};
+ghost use lib.Dec.{leb};
 ghost use Rattle.table.specs.Layout.{low, high, NodeHeld};
 ghost use Rattle.ruling.specs.Targets.{inRange, targetHolds};
 ghost use Rattle.ruling.specs.Subjects.{mostSubjects, member, subjectsFault};
@@ -17,36 +20,49 @@ ghost use Rattle.ruling.specs.Walk.{othersHold, othersHoldFrom};
 // All subjects that a set can have.
 const ALL: u64 = 18446744073709551615;
 
-// Whether a value lies in a range, both ends included.
+// Whether a value lies in a range, both ends included: going up from low, and round to 0 after the last value of the type, it is met no later
+// than high.
 pub fn in_range(low: u8, high: u8, value: u16) -> bool
     ensures { λ r. ⌜ r ≡ inRange low high value ⌝ }
 {
-    if low as u16 <= value {
-        value <= high as u16
-    } else {
-        false
-    }
+    wrapping_sub_u16(value, low as u16) <= wrapping_sub_u16(high as u16, low as u16)
 }
 
 // The same of a byte, as the values of a field are: bytes are compared, and nothing is widened.
 pub fn byte_in_range(low: u8, high: u8, value: u8) -> bool
     ensures { λ r. ⌜ r ≡ inRange low high value ⌝ }
 {
-    if low <= value { value <= high } else { false }
+    wrapping_sub_u8(value, low) <= wrapping_sub_u8(high, low)
 }
 
-// The subjects in a range, both ends included, as a set.
+// The subjects from low up, as a set.
+fn subjects_from(low: u8) -> u64
+    ensures { λ r. ⌜ ((k : ℕ) → k < mostSubjects → member r k ≡ leb low k) ⌝ }
+{
+    if low as usize >= WORD { 0 } else { ALL << low as usize }
+}
+
+// The subjects up to high, as a set.
+fn subjects_up_to(high: u8) -> u64
+    ensures { λ r. ⌜ ((k : ℕ) → k < mostSubjects → member r k ≡ leb k high) ⌝ }
+{
+    if high as usize >= WORD - 1 {
+        ALL
+    } else {
+        ALL >> (WORD - 1 - high as usize)
+    }
+}
+
+// The subjects in a range, both ends included, as a set: where low is above high, those from low up or up to high.
 pub(crate) fn subjects_in(low: u8, high: u8) -> u64
     ensures { λ r. ⌜ ((k : ℕ) → k < mostSubjects → member r k ≡ inRange low high k) ⌝ }
 {
-    if low as usize >= WORD {
-        return 0;
-    }
-    let from_low = ALL << low as usize;
-    if high as usize >= WORD - 1 {
-        from_low
+    let from_low = subjects_from(low);
+    let up_to_high = subjects_up_to(high);
+    if high < low {
+        from_low | up_to_high
     } else {
-        from_low & (ALL >> (WORD - 1 - high as usize))
+        from_low & up_to_high
     }
 }
 

@@ -45,8 +45,8 @@ module _ (t : List ℕ) where
         inside = inside;
         nested = λ i j l a b. nested-by g (suc j) i j (omega arith) (omega (arith, inside i l)) a b;
         levels = λ i l. g i l .levels;
-        rising = λ i f l. g i l .rising f;
-        within = λ i f l. g i l .within f;
+        low-within = λ i f l. g i l .low-within f;
+        high-within = λ i f l. g i l .high-within f;
         carded = λ i l. g i l .carded;
         plain = λ i l. g i l .plain;
       }

@@ -101,14 +101,14 @@ module _ (t : List ℕ) where
       level-allowed h = le-ltb 8 (level t i) (omega arith)
 
     -- refusal 7
-    module _ (f h l : ℕ) (eh : h ≡ high t i f) (el : l ≡ low t i f) where
-      pub range-low : h < l → true ≡ rangeFault t i f
+    module _ (f m l : ℕ) (em : m ≡ maximum t f) (el : l ≡ low t i f) where
+      pub range-low : m < l → true ≡ rangeFault t i f
       unfolding rangeFault
-      range-low g = simp (lt-ltb (high t i f) (low t i f) (omega arith))
+      range-low g = simp (lt-ltb (maximum t f) (low t i f) (omega arith))
 
-      pub range-high : (m : ℕ) → m ≡ maximum t f → l ≤ h → ltb m h ≡ rangeFault t i f
+      pub range-high : (h : ℕ) → h ≡ high t i f → l ≤ m → ltb m h ≡ rangeFault t i f
       unfolding rangeFault
-      range-high m em g = simp (le-ltb (high t i f) (low t i f) (omega arith), em, eh)
+      range-high h eh g = simp (le-ltb (maximum t f) (low t i f) (omega arith), em, eh)
 
     -- refusals 4 to 8 in order
 

@@ -26,8 +26,8 @@ pub record Good (t : List ℕ) (i : ℕ) : Type 0 where
   pub root : i ≡ 0 → span t i ≡ count t
   pub inside : 0 < i → endOf t i ≤ endOf t (parent t i)
   pub levels : level t i ≤ 8
-  pub rising : (f : ℕ) → f < fields → low t i f ≤ high t i f
-  pub within : (f : ℕ) → f < fields → high t i f ≤ maximum t f
+  pub low-within : (f : ℕ) → f < fields → low t i f ≤ maximum t f
+  pub high-within : (f : ℕ) → f < fields → high t i f ≤ maximum t f
   pub carded : 4 ≤ kind t i → 1 ≤ card t i
   pub plain : kind t i < 4 → card t i ≡ 0
 
@@ -39,10 +39,10 @@ module _ (t : List ℕ) (i : ℕ) where
       let b = neither (eqb (span t i) 0) (isRule t i && not (eqb (span t i) 1)) (a .0) in
       (b .0, b .1, a .1)
 
-  range-parts : (f : ℕ) → rangeFault t i f ≡ false → (low t i f ≤ high t i f) × (high t i f ≤ maximum t f)
+  range-parts : (f : ℕ) → rangeFault t i f ≡ false → (low t i f ≤ maximum t f) × (high t i f ≤ maximum t f)
   unfolding rangeFault
   range-parts f e =
-      let a = neither (ltb (high t i f) (low t i f)) (ltb (maximum t f) (high t i f)) e in
+      let a = neither (ltb (maximum t f) (low t i f)) (ltb (maximum t f) (high t i f)) e in
       (ltb-false _ _ (a .0), ltb-false _ _ (a .1))
 
   ranges-parts : rangesFault t i ≡ false → (f : ℕ) → f < fields → rangeFault t i f ≡ false
@@ -83,8 +83,8 @@ module _ (t : List ℕ) (i : ℕ) where
         root = λ z. eqb-true _ _ (not-false _ (sym (wrong-end-root t i z) ∙ p .2));
         inside = λ l. ltb-false _ _ (sym (wrong-end-child t i l) ∙ p .2);
         levels = level-part (e .1 .1 .0);
-        rising = λ f h. range-parts f (ranges-parts ranges f h) .0;
-        within = λ f h. range-parts f (ranges-parts ranges f h) .1;
+        low-within = λ f h. range-parts f (ranges-parts ranges f h) .0;
+        high-within = λ f h. range-parts f (ranges-parts ranges f h) .1;
         carded = card-rule cards;
         plain = card-group cards;
       }
@@ -126,7 +126,7 @@ module _ (t : List ℕ) (i : ℕ) (g : Good t i) where
 
   range-passes : (f : ℕ) → f < fields → rangeFault t i f ≡ false
   unfolding rangeFault
-  range-passes f l = ap₂ (λ a b. a || b) (le-ltb (high t i f) (low t i f) (g .rising f l)) (le-ltb (maximum t f) (high t i f) (g .within f l))
+  range-passes f l = ap₂ (λ a b. a || b) (le-ltb (maximum t f) (low t i f) (g .low-within f l)) (le-ltb (maximum t f) (high t i f) (g .high-within f l))
 
   ranges-pass : rangesFault t i ≡ false
   unfolding rangesFault

@@ -1,4 +1,4 @@
--- When a table is refused, and what reading one answers: document 01's refusals 1 to 8, in the order of its table.
+-- When a table is refused, and what reading one answers: document 01's refusals 1 to 8, in the order of its table, 7 as paper 7 leaves it.
 -- Assumes nothing: these are definitions.
 use mathlib.Core.Bool.{Bool, not, cond, _&&_, _||_}
 use mathlib.Core.List.{List, [], _∷_, _++_}
@@ -46,11 +46,11 @@ spanFault t i = oddSpan (span t i) (isRule t i) || wrongEnd t i
 unfoldable pub levelFault : List ℕ → ℕ → Bool
 levelFault t i = ltb 8 (level t i)
 
--- 7: "low over high, or high over the maximum", in field f
+-- 7, of paper 7: "a low or high above the maximum", in field f
 unfoldable pub rangeFault : List ℕ → ℕ → ℕ → Bool
-rangeFault t i f = ltb (high t i f) (low t i f) || ltb (maximum t f) (high t i f)
+rangeFault t i f = ltb (maximum t f) (low t i f) || ltb (maximum t f) (high t i f)
 
--- 7: "low over high, or high over the maximum", in some field
+-- 7, of paper 7: "a low or high above the maximum", in some field
 unfoldable pub rangesFault : List ℕ → ℕ → Bool
 rangesFault t i = someBelow fields (rangeFault t i)
 

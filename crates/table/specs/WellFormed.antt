@@ -24,9 +24,9 @@ pub record WellFormed (t : List ℕ) : Type 0 where
   pub nested : (i j : ℕ) → i < count t → i < j → j < endOf t i → endOf t j ≤ endOf t i
   -- 8 levels
   pub levels : (i : ℕ) → i < count t → level t i ≤ 8
-  -- ranges rise and lie within the maxima
-  pub rising : (i f : ℕ) → i < count t → f < fields → low t i f ≤ high t i f
-  pub within : (i f : ℕ) → i < count t → f < fields → high t i f ≤ maximum t f
+  -- both ends of a range lie within the maximum; either may be the larger
+  pub low-within : (i f : ℕ) → i < count t → f < fields → low t i f ≤ maximum t f
+  pub high-within : (i f : ℕ) → i < count t → f < fields → high t i f ≤ maximum t f
   -- a rule's card is at least 1, a group's is 0
   pub carded : (i : ℕ) → i < count t → 4 ≤ kind t i → 1 ≤ card t i
   pub plain : (i : ℕ) → i < count t → kind t i < 4 → card t i ≡ 0

@@ -114,15 +114,15 @@ fn range_fault(table: &[u8], i: usize, field: usize) -> bool
     requires { ⌜ field < fields ⌝ }
     ensures { λ r. ⌜ r ≡ rangeFault (now (table .entry)) i field ⌝ }
 {
-    let high = high_at(table, i, field);
-    if high < low_at(table, i, field) {
+    let maximum = maximum_at(table, field);
+    if maximum < low_at(table, i, field) {
         true
     } else {
-        maximum_at(table, field) < high
+        maximum < high_at(table, i, field)
     }
 }
 
-// Refusal 7: a low over its high, or a high over the maximum.
+// Refusal 7: a low or a high over the maximum.
 fn ranges_fault(table: &[u8], i: usize) -> bool
     requires { ⌜ NodeHeld (now table) i ⌝ }
     ensures { λ r. ⌜ r ≡ rangesFault (now (table .entry)) i ⌝ }

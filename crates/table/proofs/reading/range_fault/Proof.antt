@@ -7,19 +7,23 @@ use Rattle.table.proofs.reading.range_fault.Statement.{statement}
 use Rattle.table.proofs.reading.range_fault.Tie as tie
 
 maximum-at-requires : tie.Need-maximum-at-requires
-maximum-at-requires c κs = (node-header (c .before .before .before .before .args .table .now) (c .before .before .before .before .args .i) (c .before .before .before .before .pre .0), c .before .before .before .before .pre .1)
+maximum-at-requires c κs = let s = c .before in (node-header (s .args .table .now) (s .args .i) (s .pre .0), s .pre .1)
 
 returns : tie.Need-returns
 returns c =
-    let s = c .before .before .before .before .args in
-    range-low (s .table .now) (s .i) (s .field) (c .before .before .high-at .result) (c .before .low-at .result) (c .before .before .high-at .ensures) (c .before .low-at .ensures) (c .if1 .taken)
+    let low = c .before in
+    let most = low .before in
+    let s = most .before .before .args in
+    range-low (s .table .now) (s .i) (s .field) (most .maximum-at .result) (low .low-at .result) (most .maximum-at .ensures) (low .low-at .ensures) (c .if1 .taken)
 
 returns-2 : tie.Need-returns-2
 returns-2 c =
-    let s = c .before .before .before .before .before .args in
-    range-high (s .table .now) (s .i) (s .field) (c .before .before .before .high-at .result) (c .before .before .low-at .result) (c .before .before .before .high-at .ensures) (c .before .before .low-at .ensures)
-    (c .maximum-at .result) (c .maximum-at .ensures) (c .before .if1 .left)
+    let low = c .before .before in
+    let most = low .before in
+    let s = most .before .before .args in
+    range-high (s .table .now) (s .i) (s .field) (most .maximum-at .result) (low .low-at .result) (most .maximum-at .ensures) (low .low-at .ensures)
+    (c .high-at .result) (c .high-at .ensures) (c .before .if1 .left)
 
 pub range-fault-spec : {M : Type 1} → statement M
 range-fault-spec =
-    tie.close (tie.spec (λ c κs. search needs) (λ c κs. search needs) maximum-at-requires returns returns-2)
+    tie.close (tie.spec maximum-at-requires (λ c κs. search needs) (λ c κs. search needs) returns returns-2)
