@@ -1,25 +1,27 @@
--- `combining::first_row` meets its contract: at each kind of group the row computes.
+-- `combining::first_row` meets its contract, by whether the group is only one applicable.
 -- Assumes nothing.
-use mathlib.Core.Path.{_≡_, refl}
+use mathlib.Core.Path.{_≡_, sym, ap, _∙_}
+use mathlib.Core.Bool.{cond}
+use Prim.Native.Nat.{_*_}
 use native.Mathlib.Omega.{arith}
 use borrow.Author.Needs.{needs}
-use lib.Dec.{lit<}
+use borrow.Author.Tests.{eq-eqb, ne-eqb}
+use Rattle.combining.specs.Kinds.{onlyOneApplicableKind}
+use Rattle.combining.specs.Table.{onlyOneRow}
 use Rattle.combining.proofs.first_row.Statement.{statement}
 use Rattle.combining.proofs.first_row.Tie as tie
 
-first-applicable : tie.Need-returns
-first-applicable c = let e : c .before .args .kind ≡ 0 = omega (arith, c .match .keys1) in rw e (refl, lit< tt)
-
-only-one-applicable : tie.Need-returns-2
+only-one-applicable : tie.Need-returns
 only-one-applicable c =
-    let e : c .before .before .args .kind ≡ 1 = omega (arith, c .before .match .keys2) in
-    rw e (c .only-one-row .ensures .0, omega (arith, c .only-one-row .ensures .1))
+    let s = c .before .before .args in
+    let e = ap (λ b. cond b (onlyOneRow (s .counted) (s .counts)) (4 * s .kind)) (eq-eqb (s .kind) onlyOneApplicableKind (c .before .if1 .taken)) in
+    (c .only-one-row .ensures .0 ∙ sym e, c .only-one-row .ensures .1)
 
-permit-overrides : tie.Need-returns-3
-permit-overrides c = let e : c .before .args .kind ≡ 2 = omega (arith, c .match .keys3) in rw e (refl, lit< tt)
-
-deny-overrides : tie.Need-returns-4
-deny-overrides c = let e : c .before .args .kind ≡ 3 = omega (arith, c .before .pre, c .match .rest) in rw e (refl, lit< tt)
+other : tie.Need-returns-2
+other c =
+    let s = c .before .args in
+    let e = ap (λ b. cond b (onlyOneRow (s .counted) (s .counts)) (4 * s .kind)) (ne-eqb (s .kind) onlyOneApplicableKind (c .if1 .left)) in
+    (sym e, omega (arith, c .before .pre))
 
 pub first-row-spec : {M : Type 1} → statement M
-first-row-spec = tie.close (tie.spec (λ c κs. search needs) first-applicable only-one-applicable permit-overrides deny-overrides)
+first-row-spec = tie.close (tie.spec (λ c κs. search needs) (λ c. search needs) only-one-applicable other)
