@@ -46,7 +46,7 @@ pub enum Reason {
     Span = 5,
     /// A node is on level 9 or deeper.
     Level = 6,
-    /// A low is over its high, or a high over the field's maximum.
+    /// A low or a high is over the field's maximum.
     Range = 7,
     /// A rule has card 0, or a group has another.
     Card = 8,
@@ -106,7 +106,7 @@ impl fmt::Display for Reason {
                 "a span of 0, of a rule not 1, of the root not the number of nodes, or past its parent's end"
             }
             Reason::Level => "level 9 or deeper",
-            Reason::Range => "a low over its high, or a high over the maximum",
+            Reason::Range => "a low or a high over the field's maximum",
             Reason::Card => "a rule with card 0, or a group with another card",
             Reason::Value => "a value over its field's maximum",
             Reason::ListTooShort => "the list is shorter than the cards",
