@@ -98,7 +98,7 @@ fn generated_tables() {
         let [base, expansion] = some_two(&mut random, seed);
         attaches(&mut compare, &mut random, [&base, &expansion]);
     }
-    compare.end(90_000_000, (0..=8).chain([11, 17, 18, 19]), 900);
+    compare.end(90_000_000, (0..=8).chain([11, 17, 18, 19]), 800);
 }
 
 /// Tables of a rule, of few nodes, of about as many as there may be and on about as many levels, each with some maxima
@@ -230,7 +230,7 @@ impl Tally {
     }
 
     fn is_enough(&self) -> bool {
-        self.nobody >= 14_000 && self.fewer_cards >= 900 && self.decided >= 5_000
+        self.nobody >= 12_000 && self.fewer_cards >= 900 && self.decided >= 5_000
     }
 }
 
@@ -289,7 +289,7 @@ fn rulings_by_parts() {
     }
     assert!(tally.is_enough(), "{tally:?}");
     compare.every_decision(6_000);
-    compare.silent_groups(900);
+    compare.silent_groups(750);
     compare.every_set(130);
     compare.end(7_500_000, [0, 9, 10, 13], 6_000);
 }

@@ -13,6 +13,7 @@ mod looking_up;
 mod pairs;
 mod reading;
 mod refusals;
+mod rings;
 mod ruling;
 mod sets;
 mod standard;

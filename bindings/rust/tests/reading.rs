@@ -1,9 +1,10 @@
 //! Reading, by the convention profile too, and that a table's refusal comes before all others of a call.
 
 use crate::compare::Compare;
-use crate::evaluator::{Due, Joint, Table, MOST_SUBJECTS, OTHERS};
+use crate::evaluator::{Due, Joint, Range, Table, FIELDS, MOST_SUBJECTS, OTHERS};
 use crate::generator::{accepted_table, any_maxima, chain, damaged_table, nested, one_rule};
-use crate::generator::{each_length, each_place, each_span, state_length, Random, HARBOUR};
+use crate::generator::{each_length, each_place, each_span, ranges_of, state_length};
+use crate::generator::{two_ranges, Random, HARBOUR};
 
 /// Reads a table: whether it is accepted. Where it is not, a ruling and a build refuse it too, before an empty set or
 /// one with subjects over their maximum, a value over its maximum, a list that is too short and a room that is. So does
@@ -64,4 +65,29 @@ fn small_changes() {
     let accepted = accepted.count();
     compare.same("the number of nestings", accepted, 34);
     compare.end(37_000_000, (0..=8).chain([14]), 30);
+}
+
+/// "Refusal 7 remains only for a low or high above the maximum.": each low with each high, at a group and at a rule.
+#[test]
+fn ranges_about_the_maximum() {
+    let mut compare = Compare::new("reading ranges about the maximum");
+    let ends = [0, 1, 4, 5, 6, 7, 62, 63, 64, 65, 127, 128, 253, 254, 255];
+    let ranges = ranges_of(&ends);
+    // a maximum, and how many of these ends are not above it
+    for (most, up_to) in [(0, 1), (1, 2), (5, 4), (63, 8), (254, 14), (255, 15)] {
+        for field in 0..FIELDS {
+            let at_group = |&range: &Range| two_ranges(field, most, range, (0, most));
+            let at_rule = |&range: &Range| two_ranges(field, most, (0, most), range);
+            let tables = ranges
+                .iter()
+                .map(at_group)
+                .chain(ranges.iter().map(at_rule));
+            let accepted = tables
+                .enumerate()
+                .filter(|(number, table)| reads(&mut compare, *number, &table.bytes()));
+            let accepted = accepted.count();
+            compare.same("how many are accepted", accepted, 2 * up_to * up_to);
+        }
+    }
+    compare.end(1_100_000, [0, 7], 3_000);
 }

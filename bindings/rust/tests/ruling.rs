@@ -27,7 +27,7 @@ fn generated_tables() {
         }
     }
     compare.every_decision(50_000);
-    compare.silent_groups(7_000);
+    compare.silent_groups(5_500);
     compare.every_set(1_500);
     compare.end(75_000_000, (0..=10).chain([13]), 4_500);
 }
@@ -72,8 +72,8 @@ fn every_root(compare: &mut Compare) {
     }
 }
 
-/// A rule under a group, each for every range from one to another of some subjects, about the last of a set and the last
-/// of all; each set of some subjects, and the set of as many as a set has.
+/// A rule under a group, each for every range of which both ends are of some subjects, about the last of a set and the
+/// last of all; each set of some subjects, and the set of as many as a set has.
 fn every_range(compare: &mut Compare) {
     let mut sets = sets_of(&[0, 31, 32, 62, 63]);
     sets.push((0..MOST_SUBJECTS).collect());
@@ -84,7 +84,7 @@ fn every_range(compare: &mut Compare) {
         let ranges = ranges_of(&Vec::from_iter(ends.filter(|&end| end <= most)));
         for &group in &ranges {
             for &rule in &ranges {
-                let bytes = two_ranges(most, group, rule).bytes();
+                let bytes = two_ranges(0, most, group, rule).bytes();
                 let table = Table::read(&bytes);
                 for joint in &requests {
                     let ruled = evaluator::rule(&table, joint);
@@ -113,7 +113,7 @@ fn small_tables_and_the_largest() {
     }
     compare.every_decision(150);
     compare.silent_groups(1_000);
-    compare.end(10_000_000, [0, 3, 9, 10, 13], 100);
+    compare.end(13_500_000, [0, 3, 9, 10, 13], 100);
 }
 
 /// The subjects of silent groups and those of rules to permit, all of them in an only-one group; a set, and the

@@ -3,8 +3,9 @@
 use std::collections::BTreeSet;
 
 use crate::compare::Compare;
-use crate::evaluator::{every_request, Joint, Table, FIELDS, MOST_SUBJECTS};
-use crate::generator::{accepted_table, lists, some_joint_requests, Outline, Random};
+use crate::evaluator::{every_request, lies_in, Joint, Table, FIELDS, MOST_SUBJECTS};
+use crate::generator::{accepted_table, lists, some_joint_requests};
+use crate::generator::{steps_on, Outline, Random};
 use crate::pairs::builds;
 
 /// A table whose subjects often end about where those of a set do. A card tells its rule from all others, and cards rise
@@ -35,7 +36,7 @@ fn part_subjects(random: &mut Random, table: &mut Outline) {
     for place in 1..table.nodes.len() {
         if table.parent(place).kind == 1 {
             let low = random.below(usize::from(most.min(63)) + 1) as u8;
-            table.nodes[place].ranges[0] = (low, most.min(low + random.below(3) as u8));
+            table.nodes[place].ranges[0] = (low, steps_on(low, random.below(3), most));
         }
     }
 }
@@ -84,27 +85,28 @@ fn members_by_themselves() {
     }
     assert!(silent >= 120, "silent groups of two members: {silent}");
     compare.every_decision(1_000);
-    compare.silent_groups(500);
+    compare.silent_groups(280);
     compare.every_set(40);
     compare.end(18_000_000, [0, 13], 500);
 }
 
 /// The table with one subject alone: a node applies to it exactly where it can apply to a subject of a run. A node for
 /// which the ranges on its way leave none of the run goes, with all under it; for a root an empty group stays.
-fn without_subjects(table: &Outline, run: (u8, u8)) -> Outline {
+fn without_subjects(table: &Outline, run: &[u16]) -> Outline {
     let mut outline = Outline::new(table.maxima);
     outline.maxima[0] = 0;
     // what each level above a node leaves of the run
-    let mut left = vec![run];
+    let mut left = vec![run.to_vec()];
     for node in &table.nodes {
         left.truncate(node.level);
-        let ((first, last), (low, high)) = (left[left.len() - 1], node.ranges[0]);
-        left.push((first.max(low), last.min(high)));
-        if left.iter().all(|(first, last)| first <= last) {
+        let mut subjects = left[left.len() - 1].clone();
+        subjects.retain(|&subject| lies_in(subject, node.ranges[0]));
+        if !subjects.is_empty() {
             let mut ranges = node.ranges;
             ranges[0] = (0, 0);
             outline.add(node.level, node.kind, node.card, ranges);
         }
+        left.push(subjects);
     }
     if outline.nodes.is_empty() {
         outline.add(1, 0, 0, outline.all());
@@ -121,21 +123,21 @@ fn runs_of_subjects() {
         let mut random = Random::new(seed);
         let outline = some_table(&mut random);
         let bytes = outline.bytes();
-        let last = outline.maxima[0].min(MOST_SUBJECTS as u8 - 1);
-        let some = random.below(usize::from(last) + 1) as u8;
-        for run in [(0, last), (0, some), (some, last)] {
-            let without = without_subjects(&outline, run).bytes();
+        let last = u16::from(outline.maxima[0]).min(MOST_SUBJECTS - 1);
+        let some = random.below(usize::from(last) + 1) as u16;
+        for run in [0..=last, 0..=some, some..=last].map(Vec::from_iter) {
+            let without = without_subjects(&outline, &run).bytes();
             let without = Table::read(&without).expect("a table that is accepted");
             for values in every_request(without.maxima) {
                 let [_, others @ ..] = values;
-                let joint = Joint::new((run.0..=run.1).map(u16::from), others);
+                let joint = Joint::new(run.clone(), others);
                 let ruled = without.rule_one(values);
                 compare.rules_with(&bytes, &joint, &ruled, [random.of(&lists(&ruled))]);
             }
         }
     }
     compare.every_decision(1_000);
-    compare.silent_groups(1_000);
+    compare.silent_groups(900);
     compare.every_set(10);
     compare.end(5_000_000, [0, 10], 5_000);
 }

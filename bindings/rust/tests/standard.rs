@@ -135,7 +135,7 @@ fn generated_tables() {
     assert!(earlier >= 250, "15 earlier than 14: {earlier}");
     compare.every_decision(5_000);
     compare.silent_groups(600);
-    compare.every_set(200);
+    compare.every_set(180);
     compare.end(9_500_000, (0..=10).chain(13..=16), 200);
 }
 

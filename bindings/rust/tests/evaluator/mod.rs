@@ -10,7 +10,8 @@ mod walk;
 
 pub use attaching::attach;
 pub use diagram::Diagram;
-pub use reader::{Table, HEADER, RECORD};
+pub use reader::{Range, Table, HEADER, RECORD};
+pub use ruling::lies_in;
 
 /// How many fields a request has: subject, resource, action.
 pub const FIELDS: usize = 3;

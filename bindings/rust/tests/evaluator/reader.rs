@@ -10,12 +10,15 @@ pub const HEADER: usize = 5 + FIELDS;
 /// Bytes of a record: the kind, two for the span, two for the card, two for each field's range.
 pub const RECORD: usize = 5 + 2 * FIELDS;
 
+/// Low and high, both included.
+pub type Range = (u8, u8);
+
 #[derive(Debug)]
 pub struct Node {
     pub kind: u8,
     pub span: usize,
     pub card: u16,
-    pub ranges: [(u8, u8); FIELDS],
+    pub ranges: [Range; FIELDS],
     pub parent: Option<usize>,
     pub children: Vec<usize>,
 }
@@ -88,9 +91,11 @@ impl Table {
             None => node.span != count,
             Some(parent) => place + node.span > self.end(parent),
         };
+        // "a low or high above the maximum"
         let range_wrong = (0..FIELDS).any(|field| {
             let (low, high) = node.ranges[field];
-            low > high || u16::from(high) > self.maxima[field]
+            let above = |end| u16::from(end) > self.maxima[field];
+            above(low) || above(high)
         });
         if node.kind > 5 {
             Some(4)

@@ -1,7 +1,7 @@
 //! Ruling by a table's groups.
 
 use super::{every_request, reader::Node, within};
-use super::{Joint, Refused, Ruled, Table, Values, FIELDS};
+use super::{Joint, Range, Refused, Ruled, Table, Values, FIELDS};
 
 const NONE: u8 = 0;
 const MAY: u8 = 1;
@@ -105,10 +105,18 @@ impl Table {
 
 /// "A node's target holds when all three values lie in its ranges."
 pub(super) fn holds(node: &Node, values: Values) -> bool {
-    (0..FIELDS).all(|field| {
-        let (low, high) = node.ranges[field];
-        u16::from(low) <= values[field] && values[field] <= u16::from(high)
-    })
+    (0..FIELDS).all(|field| lies_in(values[field], node.ranges[field]))
+}
+
+/// "A low above its high now means values from low upward or up to high."
+pub fn lies_in(value: u16, (low, high): Range) -> bool {
+    let from_low = u16::from(low) <= value;
+    let up_to_high = value <= u16::from(high);
+    if low > high {
+        from_low || up_to_high
+    } else {
+        from_low && up_to_high
+    }
 }
 
 /// What a group of a kind gives, where its target and every target above it hold.

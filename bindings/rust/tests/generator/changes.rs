@@ -1,7 +1,8 @@
 //! Changes of a table, each at a node drawn at random: some never change a ruling, some often do.
 
+use super::ranges::{cover, every_value, meet, steps_of, steps_on};
 use super::{Outline, Random};
-use crate::evaluator::FIELDS;
+use crate::evaluator::{Range, FIELDS};
 
 /// Whether a change makes a table rule otherwise.
 #[derive(Clone, Copy)]
@@ -14,7 +15,7 @@ pub enum Moves {
 /// None where there is nothing to change. After it the table may be as it was, or refused.
 pub type Change = fn(&mut Random, &mut Outline) -> Option<()>;
 
-pub const CHANGES: [(&str, Moves, Change); 16] = [
+pub const CHANGES: [(&str, Moves, Change); 17] = [
     (
         "an empty group added to an only-one group",
         Moves::Sometimes,
@@ -46,6 +47,11 @@ pub const CHANGES: [(&str, Moves, Change); 16] = [
         |random, outline| surround(random, outline, false),
     ),
     ("a range widened to all values", Moves::Sometimes, widen),
+    (
+        "a range of all values written otherwise",
+        Moves::Never,
+        rewrite,
+    ),
     ("another card", Moves::Sometimes, other_card),
     ("another kind", Moves::Sometimes, other_kind),
     ("a range's end moved by one", Moves::Sometimes, move_end),
@@ -128,41 +134,38 @@ fn split(random: &mut Random, outline: &mut Outline) -> Option<()> {
     Some(())
 }
 
-/// One rule for the lower values of a field, and one for the others.
+/// One rule for the values of a field from its low on, and one for the others up to its high.
 fn cut(random: &mut Random, outline: &mut Outline) -> Option<()> {
     let place = pick_under(random, outline, false)?;
     let field = random.below(FIELDS);
+    let most = outline.maxima[field];
     let rule = outline.nodes[place];
     let (low, high) = rule.ranges[field];
-    if low == high {
+    let steps = steps_of((low, high), most);
+    if steps == 0 {
         return None;
     }
-    let last = low + random.below(usize::from(high - low)) as u8;
+    let last = steps_on(low, random.below(steps), most);
     outline.nodes[place].ranges[field] = (low, last);
     outline.nodes.insert(place + 1, rule);
-    outline.nodes[place + 1].ranges[field] = (last + 1, high);
+    outline.nodes[place + 1].ranges[field] = (steps_on(last, 1, most), high);
     Some(())
 }
 
-/// A range cut at two ends, where that leaves something.
-fn within(range: (u8, u8), ends: (u8, u8)) -> (u8, u8) {
-    let (low, high) = (range.0.max(ends.0), range.1.min(ends.1));
-    if low <= high {
-        (low, high)
-    } else {
-        range
-    }
-}
-
-/// Parents first.
+/// Parents first; a range of which that does not leave one range stays.
 fn narrow_under(outline: &mut Outline, group: usize) {
     for under in group + 1..group + outline.span(group) {
         let parent = outline.parent(under).ranges;
-        let node = &mut outline.nodes[under];
-        for (range, ends) in node.ranges.iter_mut().zip(parent) {
-            *range = within(*range, ends);
+        for (field, range) in parent.into_iter().enumerate() {
+            narrow_to(outline, under, field, range);
         }
     }
+}
+
+fn narrow_to(outline: &mut Outline, node: usize, field: usize, to: Range) {
+    let most = outline.maxima[field];
+    let range = &mut outline.nodes[node].ranges[field];
+    *range = meet(*range, to, most).unwrap_or(*range);
 }
 
 fn narrow(_: &mut Random, outline: &mut Outline) -> Option<()> {
@@ -175,23 +178,23 @@ fn lift(random: &mut Random, outline: &mut Outline) -> Option<()> {
     let group = pick_group(random, outline)?;
     let field = random.below(FIELDS);
     narrow_under(outline, group);
-    outline.nodes[group].ranges[field] = outline.all()[field];
+    outline.nodes[group].ranges[field] = every_value(random, outline.maxima[field]);
     Some(())
 }
 
-/// From the lowest to the highest value of those under it, within its own: a group that counts where nothing in it
-/// matches, or one that does not.
+/// To a range that has all values of those under it: a group that counts where nothing in it matches, or one that does
+/// not.
 fn surround(random: &mut Random, outline: &mut Outline, counts: bool) -> Option<()> {
     let is_one =
         |node: usize| outline.nodes[node].is_group() && counts_silent(outline, node) == counts;
     let group = pick(random, outline, is_one)?;
     let under = group + 1..group + outline.span(group);
     for field in 0..FIELDS {
+        let most = outline.maxima[field];
         let ranges = outline.nodes[under.clone()].iter();
         let ranges = ranges.map(|node| node.ranges[field]);
-        let ends = ranges.reduce(|one, other| (one.0.min(other.0), one.1.max(other.1)))?;
-        let range = &mut outline.nodes[group].ranges[field];
-        *range = within(*range, ends);
+        let all = ranges.reduce(|one, other| cover(one, other, most))?;
+        narrow_to(outline, group, field, all);
     }
     Some(())
 }
@@ -199,7 +202,16 @@ fn surround(random: &mut Random, outline: &mut Outline, counts: bool) -> Option<
 fn widen(random: &mut Random, outline: &mut Outline) -> Option<()> {
     let node = random.below(outline.nodes.len());
     let field = random.below(FIELDS);
-    outline.nodes[node].ranges[field] = outline.all()[field];
+    outline.nodes[node].ranges[field] = every_value(random, outline.maxima[field]);
+    Some(())
+}
+
+fn rewrite(random: &mut Random, outline: &mut Outline) -> Option<()> {
+    let field = random.below(FIELDS);
+    let most = outline.maxima[field];
+    let steps = |node: usize| steps_of(outline.nodes[node].ranges[field], most);
+    let node = pick(random, outline, |node| steps(node) == usize::from(most))?;
+    outline.nodes[node].ranges[field] = every_value(random, most);
     Some(())
 }
 

@@ -1,12 +1,12 @@
 //! A table's nodes before they are bytes.
 
-use crate::evaluator::{Table, FIELDS};
+use crate::evaluator::{Range, Table, FIELDS};
 
 /// The largest value of each field.
 pub type Maxima = [u8; FIELDS];
 
-/// Low and high of each field.
-pub type Ranges = [(u8, u8); FIELDS];
+/// The range of each field.
+pub type Ranges = [Range; FIELDS];
 
 /// A node by its level: under it are the nodes on deeper levels that follow it directly.
 #[derive(Clone, Copy, PartialEq)]

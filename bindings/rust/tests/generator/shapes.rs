@@ -1,7 +1,7 @@
 //! Tables of a certain shape.
 
 use super::{outline::Ranges, Outline};
-use crate::evaluator::FIELDS;
+use crate::evaluator::{Range, FIELDS};
 
 /// A group over rules that match every request, so many nodes in all.
 pub fn flat(nodes: u16) -> Outline {
@@ -164,22 +164,38 @@ pub fn permit_and_deny(permit: u8, deny: u8) -> Outline {
     outline
 }
 
-/// A rule for a range of subjects under a group for a range of subjects.
-pub fn two_ranges(most: u8, group: (u8, u8), rule: (u8, u8)) -> Outline {
-    let mut outline = Outline::new([most, 0, 0]);
-    outline.add(1, 0, 0, [group, (0, 0), (0, 0)]);
-    outline.add(2, 4, 1, [rule, (0, 0), (0, 0)]);
+/// A rule to permit a range of one field, under a group for a range of it.
+pub fn two_ranges(field: usize, most: u8, group: Range, rule: Range) -> Outline {
+    let mut outline = rules_for(field, most, &[rule]);
+    outline.nodes[0].ranges[field] = group;
     outline
 }
 
-/// 127 rules, whose ranges in one field begin and end each at another value.
+/// A rule to permit each of some ranges of one field, with cards from 1 on, under a group for everything. The other
+/// fields have one value.
+pub fn rules_for(field: usize, most: u8, ranges: &[Range]) -> Outline {
+    let mut outline = Outline::new([0; FIELDS]);
+    outline.maxima[field] = most;
+    outline.add(1, 0, 0, outline.all());
+    for (card, &range) in (1..).zip(ranges) {
+        let mut ranges = outline.all();
+        ranges[field] = range;
+        outline.add(2, 4, card, ranges);
+    }
+    outline
+}
+
+/// 127 rules, whose ranges in one field begin and end each at another value; every other two are wrapped.
 pub fn spread(field: usize) -> Outline {
     let mut outline = Outline::new([0; FIELDS]);
     outline.maxima[field] = 255;
     outline.add(1, 3, 0, outline.all());
     for rule in 0..127 {
         let mut ranges = outline.all();
-        ranges[field] = (1 + rule, 128 + rule);
+        ranges[field] = match rule % 4 {
+            0 | 1 => (1 + rule, 128 + rule),
+            _ => (129 + rule, rule),
+        };
         outline.add(2, 4 + rule % 2, 1000 + u16::from(rule), ranges);
     }
     outline

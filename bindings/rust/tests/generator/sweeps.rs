@@ -1,6 +1,6 @@
 //! One small change after another.
 
-use crate::evaluator::{FIELDS, HEADER, RECORD};
+use crate::evaluator::{Range, FIELDS, HEADER, RECORD};
 
 /// Some numbers, with each of them at each of some others.
 pub fn each_place<'a, T: Copy>(
@@ -23,10 +23,10 @@ fn each_at<'a, T: Copy>(
     })
 }
 
-/// Every range from one to another of some ends, which rise.
-pub fn ranges_of(ends: &[u8]) -> Vec<(u8, u8)> {
-    let highs = |(place, &low): (usize, &u8)| ends[place..].iter().map(move |&high| (low, high));
-    ends.iter().enumerate().flat_map(highs).collect()
+/// Every range from one of some ends to one of them.
+pub fn ranges_of(ends: &[u8]) -> Vec<Range> {
+    let highs = |&low: &u8| ends.iter().map(move |&high| (low, high));
+    ends.iter().flat_map(highs).collect()
 }
 
 /// A table or diagram cut, or lengthened by zeros, to each length up to some: stated as it was, and as it is.

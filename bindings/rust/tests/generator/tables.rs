@@ -1,7 +1,12 @@
 //! Tables that are accepted, and tables that most often are not.
 
-use super::{damage::damage_table, outline::Ranges, Maxima, Outline, Random};
-use crate::evaluator::FIELDS;
+use super::{
+    damage::damage_table,
+    outline::Ranges,
+    ranges::{every_value, steps_on},
+};
+use super::{Maxima, Outline, Random};
+use crate::evaluator::{Range, FIELDS};
 
 pub const HARBOUR: &[u8] = include_bytes!("../../../../examples/harbour.table");
 pub const RULEBOOK: &[u8] = include_bytes!("../../../../examples/rulebook.table");
@@ -180,18 +185,33 @@ impl Growth<'_> {
         maxima.map(|most| self.range(most, seldom))
     }
 
-    fn range(&mut self, most: u8, seldom: usize) -> (u8, u8) {
-        if !self.random.one_in(seldom) {
-            return (0, most);
+    /// About one in three is wrapped.
+    fn range(&mut self, most: u8, seldom: usize) -> Range {
+        if self.random.one_in(seldom) {
+            self.narrow_range(most)
+        } else if self.random.one_in(3) {
+            every_value(self.random, most)
+        } else {
+            (0, most)
         }
-        let mut end = || {
-            if most > LAST[0] && self.random.one_in(4) {
-                self.random.of(&LAST).min(most)
-            } else {
-                self.random.below(usize::from(most) + 1) as u8
-            }
-        };
-        let (a, b) = (end(), end());
-        (a.min(b), a.max(b))
+    }
+
+    /// From one value to another, or as many steps from a third one on.
+    fn narrow_range(&mut self, most: u8) -> Range {
+        let range = (self.end(most), self.end(most));
+        if self.random.one_in(4) {
+            return range;
+        }
+        let low = self.end(most);
+        let steps = range.0.abs_diff(range.1);
+        (low, steps_on(low, steps.into(), most))
+    }
+
+    fn end(&mut self, most: u8) -> u8 {
+        if most > LAST[0] && self.random.one_in(4) {
+            self.random.of(&LAST).min(most)
+        } else {
+            self.random.below(usize::from(most) + 1) as u8
+        }
     }
 }
