@@ -59,7 +59,7 @@ enum {
     KOLFSEIN_SPAN = 5,              /* a span of 0, of a rule not 1, of the root not the number of nodes,
                                        or past its parent's end; place: the node */
     KOLFSEIN_LEVEL = 6,             /* level 9 or deeper; place: the node */
-    KOLFSEIN_RANGE = 7,             /* a low over its high, or a high over the maximum; place: the node */
+    KOLFSEIN_RANGE = 7,             /* a low or a high over the maximum; place: the node */
     KOLFSEIN_CARD = 8,              /* a rule with card 0, or a group with another card; place: the node */
     KOLFSEIN_VALUE = 9,             /* a value over its field's maximum; place: the first such field,
                                        0 subject (of kolfsein_look_up only), 1 resource, 2 action */

@@ -1,8 +1,8 @@
 /*
  * The interface as a C or a C++ program meets it, compiled from this one source as either: the header's names and
- * struct, the requirements' cases of table T, sets of subjects, groups that count and are silent, the convention
- * profile, expansions, each refusal of each call, null pointers of length 0, and what stands around what is lent. Other
- * tables and diagrams are left to the tests in Rust.
+ * struct, the requirements' cases of table T, sets of subjects, wrapped ranges, groups that count and are silent, the
+ * convention profile, expansions, each refusal of each call, null pointers of length 0, and what stands around what is
+ * lent. Other tables and diagrams are left to the tests in Rust.
  */
 #include "kolfsein.h" /* first, so that it needs nothing before it */
 
@@ -124,11 +124,24 @@ static struct table groups(size_t nodes, size_t levels) {
     return t;
 }
 
+/* A table with another range of a node in a field. */
+static struct table with_range(struct table t, size_t node, size_t field, uint8_t low, uint8_t high) {
+    const size_t at = START(node) + 5 + 2 * field;
+    return with(with(t, at, low), at + 1, high);
+}
+
 /* T's diagram with another number at a place. */
 static struct diagram diagram_with(size_t at, uint16_t number) {
     struct diagram d;
     memcpy(d.numbers, DIAGRAM, sizeof DIAGRAM);
     d.numbers[at] = number;
+    return d;
+}
+
+/* What is built of a table whose diagram takes no more places than T's. */
+static struct diagram diagram_of(struct table t) {
+    struct diagram d;
+    kolfsein_build(t.bytes, t.len, d.numbers, COUNT(d.numbers));
     return d;
 }
 
@@ -374,6 +387,116 @@ static void all_bits_of_a_set(void) {
     }
 }
 
+/* One rule to permit, card 7, for everything in three fields of six values, 0 to 5. */
+static const struct table SIX = {
+    {0, START(1) - 2, 1, 5, 5, 5, 0, 1, 4, 0, 1, 0, 7, 0, 5, 0, 5, 0, 5}, START(1)};
+
+/* The diagram of the same for subjects 4 to 1. */
+static const uint16_t OF_FOUR_TO_ONE[] = {
+    36, 28, 5, 5, 5,
+    /* 5 */ 0, 1, 1, 7,
+    /* 9 */ 3, 1, 5, 5,
+    /* 13 */ 2, 1, 5, 9,
+    /* 17 */ 0, 0, 0,
+    /* 20 */ 3, 1, 5, 17,
+    /* 24 */ 2, 1, 5, 20,
+    /* 28 */ 1, 3, 1, 13, 3, 24, 5, 13,
+};
+
+/* Values 4 to 1 of six are 4, 5, 0 and 1, in each field. */
+static void four_to_one(void) {
+    static const kolfsein_answer built = {KOLFSEIN_OK, 0, 0, COUNT(OF_FOUR_TO_ONE), 0};
+    static const uint8_t in_range[] = {1, 1, 0, 0, 1, 1};
+    builds(__LINE__, with_range(SIX, 0, 0, 4, 1), MOST_LENT, built, OF_FOUR_TO_ONE);
+    for (size_t field = 0; field < 3; field++) {
+        const struct table t = with_range(SIX, 0, field, 4, 1);
+        for (uint16_t value = 0; value < COUNT(in_range); value++) {
+            const uint8_t in = in_range[value];
+            const uint8_t decision = in ? KOLFSEIN_PERMIT : KOLFSEIN_NOT_APPLICABLE;
+            uint16_t values[] = {3, 3, 3};
+            values[field] = value;
+            const struct asked a = {
+                __LINE__, values[0], values[1], values[2], 1, {KOLFSEIN_OK, decision, 0, in, 0}, {7, 0}};
+            const struct asked_together set = alone(&a);
+            rules(t, &set);
+            looks_up(diagram_of(t), &a);
+        }
+    }
+}
+
+/* Seats in a ring, and a rule for seat 4 to seat 1: sets on both sides of either end, and on both sides of seat 0. */
+static void seats_in_a_ring(void) {
+    enum { SEAT0 = 1, SEAT1 = 2, SEAT2 = 4, SEAT3 = 8, SEAT4 = 16, SEAT5 = 32, ALL_SEATS = 63 };
+    static const struct asked_together sets[] = {
+        {__LINE__, SEAT5 | SEAT0, 0, 0, 1, {KOLFSEIN_OK, KOLFSEIN_PERMIT, 0, 1, 2}, {7, 0}},
+        {__LINE__, SEAT1 | SEAT2, 0, 0, 1, {KOLFSEIN_OK, KOLFSEIN_PERMIT, 0, 1, 2}, {7, 0}},
+        {__LINE__, SEAT3 | SEAT4, 0, 0, 1, {KOLFSEIN_OK, KOLFSEIN_PERMIT, 0, 1, 2}, {7, 0}},
+        {__LINE__, SEAT2 | SEAT3 | SEAT5, 0, 0, 1, {KOLFSEIN_OK, KOLFSEIN_PERMIT, 0, 1, 3}, {7, 0}},
+        {__LINE__, SEAT0 | SEAT2 | SEAT3, 0, 0, 1, {KOLFSEIN_OK, KOLFSEIN_PERMIT, 0, 1, 3}, {7, 0}},
+        {__LINE__, SEAT2 | SEAT3, 0, 0, 1, {KOLFSEIN_OK, KOLFSEIN_NOT_APPLICABLE, 0, 0, 2}, {0, 0}},
+        {__LINE__, ALL_SEATS, 0, 0, 1, {KOLFSEIN_OK, KOLFSEIN_PERMIT, 0, 1, 6}, {7, 0}},
+    };
+    for (size_t i = 0; i < COUNT(sets); i++) {
+        rules(with_range(SIX, 0, 0, 4, 1), &sets[i]);
+    }
+}
+
+/* A low one more than its high takes in every value, as 0 to the maximum does. */
+static void all_round(void) {
+    static const uint16_t of_six[] = {21, 17, 5, 5, 5, 0, 1, 1, 7, 3, 1, 5, 5, 2, 1, 5, 9, 1, 1, 5, 13};
+    static const kolfsein_answer built = {KOLFSEIN_OK, 0, 0, COUNT(of_six), 0};
+    builds(__LINE__, SIX, MOST_LENT, built, of_six);
+    for (size_t field = 0; field < 3; field++) {
+        for (uint8_t high = 0; high < 5; high++) {
+            const struct table t = with_range(SIX, 0, field, (uint8_t)(high + 1), high);
+            builds(__LINE__, t, MOST_LENT, built, of_six);
+            for (uint16_t value = 0; value < 6; value++) {
+                const struct asked a = {
+                    __LINE__, value, value, value, 1, {KOLFSEIN_OK, KOLFSEIN_PERMIT, 0, 1, 0}, {7, 0}};
+                const struct asked_together set = alone(&a);
+                rules(t, &set);
+            }
+        }
+    }
+}
+
+/* Wrapped ranges of subjects where the greatest is 255, and which of the subjects that a set can have are in them. */
+static void wrapped_over_63(void) {
+    static const struct {
+        uint8_t low, high;
+        uint64_t in;
+    } ranges[] = {
+        {200, 1, KOLFSEIN_SUBJECT(0) | KOLFSEIN_SUBJECT(1)},
+        {64, 0, KOLFSEIN_SUBJECT(0)},
+        {63, 0, KOLFSEIN_SUBJECT(0) | KOLFSEIN_SUBJECT(63)},
+        {255, 62, UINT64_MAX >> 1},
+        {255, 63, UINT64_MAX},
+        {100, 70, UINT64_MAX},
+        {64, 63, UINT64_MAX},
+    };
+    static const struct asked of_200_to_1[] = {
+        {__LINE__, 0, 0, 0, 1, {KOLFSEIN_OK, KOLFSEIN_PERMIT, 0, 1, 0}, {7, 0}},
+        {__LINE__, 1, 0, 0, 1, {KOLFSEIN_OK, KOLFSEIN_PERMIT, 0, 1, 0}, {7, 0}},
+        {__LINE__, 2, 0, 0, 1, {KOLFSEIN_OK, KOLFSEIN_NOT_APPLICABLE, 0, 0, 0}, {0, 0}},
+        {__LINE__, 199, 0, 0, 1, {KOLFSEIN_OK, KOLFSEIN_NOT_APPLICABLE, 0, 0, 0}, {0, 0}},
+        {__LINE__, 200, 0, 0, 1, {KOLFSEIN_OK, KOLFSEIN_PERMIT, 0, 1, 0}, {7, 0}},
+        {__LINE__, 255, 0, 0, 1, {KOLFSEIN_OK, KOLFSEIN_PERMIT, 0, 1, 0}, {7, 0}},
+    };
+    const struct table t = with(SIX, 3, 255);
+    for (size_t i = 0; i < COUNT(ranges); i++) {
+        for (size_t k = 0; k < 64; k++) {
+            const uint8_t in = ranges[i].in >> k & 1;
+            const uint8_t decision = in ? KOLFSEIN_PERMIT : KOLFSEIN_NOT_APPLICABLE;
+            const struct asked_together set = {
+                __LINE__, KOLFSEIN_SUBJECT(k), 0, 0, 1, {KOLFSEIN_OK, decision, 0, in, 1}, {7, 0}};
+            rules(with_range(t, 0, 0, ranges[i].low, ranges[i].high), &set);
+        }
+    }
+    for (size_t i = 0; i < COUNT(of_200_to_1); i++) {
+        looks_up(diagram_of(with_range(t, 0, 0, 200, 1)), &of_200_to_1[i]);
+    }
+}
+
 /* A first-applicable group over a rule to permit, card 1, for subject 0, and a rule to deny, card 2, for subject 1. */
 static const struct table PERMIT_FIRST = {
     {0, START(3) - 2, 1, 1, 0, 0, 0, 3,
@@ -501,6 +624,33 @@ static void accepted_by_profile(void) {
     }
 }
 
+/*
+ * T with its rule to deny for subjects 2 to 0, the smuggler and the scout: by its groups, by its diagram, and sorted by
+ * the profile.
+ */
+static void wrapped_in_t(void) {
+    static const struct asked each[] = {
+        {__LINE__, 0, 0, 0, 2, {KOLFSEIN_OK, KOLFSEIN_DENY, 0, 2, 0}, {10, 20}},
+        {__LINE__, 1, 0, 0, 2, {KOLFSEIN_OK, KOLFSEIN_PERMIT, 0, 1, 0}, {10, 0}},
+        {__LINE__, 2, 0, 0, 2, {KOLFSEIN_OK, KOLFSEIN_DENY, 0, 2, 0}, {10, 20}},
+        {__LINE__, 0, 0, 1, 2, {KOLFSEIN_OK, KOLFSEIN_NOT_APPLICABLE, 0, 0, 0}, {0, 0}},
+        {__LINE__, 0, 1, 0, 2, {KOLFSEIN_OK, KOLFSEIN_PERMIT, 0, 1, 0}, {10, 0}},
+    };
+    static const struct asked_together scout_and_captain = {
+        __LINE__, SCOUT | CAPTAIN, 0, 0, 2, {KOLFSEIN_OK, KOLFSEIN_DENY, 0, 2, 2}, {10, 20}};
+    const struct table t = with_range(T, 2, 0, 2, 0);
+    const struct table sorted = with_range(SORTED, 3, 0, 2, 0);
+    reads(__LINE__, t, READ);
+    for (size_t i = 0; i < COUNT(each); i++) {
+        const struct asked_together set = alone(&each[i]);
+        rules(t, &set);
+        rules_by(kolfsein_rule_standard, sorted, &set);
+        looks_up(diagram_of(t), &each[i]);
+    }
+    rules(t, &scout_and_captain);
+    rules_by(kolfsein_rule_standard, sorted, &scout_and_captain);
+}
+
 /* A table that the profile refuses, whatever else is at fault: the set, a value, or the list. */
 static void refuses_by_profile(int line, struct table t, uint8_t number, size_t place) {
     const kolfsein_answer should = {number, 0, place, 0, 0};
@@ -613,6 +763,7 @@ static void attached(void) {
     static const kolfsein_answer written = {KOLFSEIN_OK, 0, 0, START(10), 0};
     const struct table twice = t_twice();
     attaches(__LINE__, T, EXPANSION, T_EXPANDED);
+    attaches(__LINE__, with_range(T, 2, 0, 2, 0), EXPANSION, with_range(T_EXPANDED, 2, 0, 2, 0));
     attaches(__LINE__, T, T, twice);
     attaches(__LINE__, groups(1, 1), ONE_RULE, GROUP_AND_RULE);
     attaches(__LINE__, groups(127, 2), groups(1, 1), groups(128, 2));
@@ -724,7 +875,12 @@ static void refusals(void) {
     refuses(__LINE__, with(T, START(2), 6), KOLFSEIN_KIND, 2);
     refuses(__LINE__, with(T, START(4) + 2, 2), KOLFSEIN_SPAN, 4);
     refuses(__LINE__, groups(9, 9), KOLFSEIN_LEVEL, 8);
-    refuses(__LINE__, with(T, START(3) + 6, 3), KOLFSEIN_RANGE, 3);
+    for (size_t field = 0; field < 3; field++) {
+        const uint8_t most = T.bytes[3 + field];
+        refuses(__LINE__, with_range(T, 3, field, 0, (uint8_t)(most + 1)), KOLFSEIN_RANGE, 3);
+        refuses(__LINE__, with_range(T, 3, field, (uint8_t)(most + 1), 0), KOLFSEIN_RANGE, 3);
+        refuses(__LINE__, with_range(T, 3, field, (uint8_t)(most + 1), most), KOLFSEIN_RANGE, 3);
+    }
     refuses(__LINE__, with(T, START(1) + 4, 0), KOLFSEIN_CARD, 1);
     looks_up(diagram_with(1, 49), &unsound); /* the root at a node of level 2 */
 }
@@ -785,9 +941,14 @@ int main(void) {
     root_of_kind(__LINE__, 2, KOLFSEIN_PERMIT);
     by_itself();
     all_bits_of_a_set();
+    four_to_one();
+    seats_in_a_ring();
+    all_round();
+    wrapped_over_63();
     same_diagram();
     silent_groups();
     accepted_by_profile();
+    wrapped_in_t();
     refusals_by_profile();
     attached();
     rulings_by_attached();
