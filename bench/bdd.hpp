@@ -123,7 +123,7 @@ private:
             at_least = (low >> bit & 1) != 0 ? set & at_least : set | at_least;
             at_most = (high >> bit & 1) != 0 ? at_most | !set : at_most - set;
         }
-        return at_least & at_most;
+        return low <= high ? at_least & at_most : at_least | at_most;
     }
 
     // The requests to which a node applies, of those to which its parent does.

@@ -93,33 +93,58 @@ private:
         return node.is_rule() || (i > 0 && table_.nodes[node.parent].kind == 1);
     }
 
-    // A node's range in a field is what its own range and all those above it share. A node that has none in some field
-    // never applies and is in no set.
+    // Values of a field, as parts that rise, each from low up to high.
+    struct Parts {
+        struct {
+            uint8_t low, high;
+        } all[LEVELS + 1];  // each level has one range, which splits at most one part in two
+        size_t count;
+
+        void add(uint8_t low, uint8_t high) {
+            if (low <= high) {
+                all[count++] = {low, high};
+            }
+        }
+
+        // These become those of some values that are in a range.
+        void assign(const Parts &values, uint8_t low, uint8_t high) {
+            count = 0;
+            for (size_t k = 0; k < values.count; ++k) {
+                const auto &part = values.all[k];
+                if (low <= high) {
+                    add(std::max(part.low, low), std::min(part.high, high));
+                } else {
+                    add(part.low, std::min(part.high, high));
+                    add(std::max(part.low, low), part.high);
+                }
+            }
+        }
+    };
+
+    // A node's values in a field are those that its own range and all those above it share. A node that has none in
+    // some field never applies and is in no set.
     void find_runs() {
-        struct Box {
-            uint8_t low[FIELDS], high[FIELDS];
-        };
-        std::array<Box, MOST_NODES> boxes;
+        std::array<std::array<Parts, FIELDS>, MOST_NODES> values;
         std::array<std::array<Set, 257>, FIELDS> changes{};
         for (size_t i = 0; i < table_.count; ++i) {
             const Node &node = table_.nodes[i];
             bool possible = true;
             for (size_t field = 0; field < FIELDS; ++field) {
-                boxes[i].low[field] = node.low[field];
-                boxes[i].high[field] = node.high[field];
-                if (i > 0) {
-                    boxes[i].low[field] = std::max(node.low[field], boxes[node.parent].low[field]);
-                    boxes[i].high[field] = std::min(node.high[field], boxes[node.parent].high[field]);
-                }
-                possible = possible && boxes[i].low[field] <= boxes[i].high[field];
+                const Parts whole = {{{0, table_.maxima[field]}}, 1};
+                const Parts &above = i > 0 ? values[node.parent][field] : whole;
+                values[i][field].assign(above, node.low[field], node.high[field]);
+                possible = possible && values[i][field].count > 0;
             }
             if (!possible || !matters(i)) {
                 continue;
             }
             all_.flip(i);
             for (size_t field = 0; field < FIELDS; ++field) {
-                changes[field][boxes[i].low[field]].flip(i);
-                changes[field][boxes[i].high[field] + 1u].flip(i);
+                const Parts &parts = values[i][field];
+                for (size_t k = 0; k < parts.count; ++k) {
+                    changes[field][parts.all[k].low].flip(i);
+                    changes[field][parts.all[k].high + 1u].flip(i);
+                }
             }
         }
         for (size_t field = 0; field < FIELDS; ++field) {

@@ -122,7 +122,7 @@ inline kolfsein_answer read_keeping(const uint8_t *table, size_t length) {
         for (size_t field = 0; field < FIELDS; ++field) {
             const uint8_t low = record[5 + 2 * field];
             const uint8_t high = record[6 + 2 * field];
-            if (low > high || high > maxima[field]) {
+            if (low > maxima[field] || high > maxima[field]) {
                 return refused(KOLFSEIN_RANGE, i);
             }
         }
@@ -184,13 +184,13 @@ kolfsein_answer attach(const uint8_t *base, size_t base_len, const uint8_t *expa
 
 namespace {
 
-// The subjects in a range, both ends included, as a set: those from 64 on are in none.
+// The subjects from one on, as a set: those from 64 on are in none.
+uint64_t subjects_from(unsigned low) { return low > 63 ? 0 : ~uint64_t{0} << low; }
+
+// The subjects in a range; where it is wrapped, those between its ends are the others.
 uint64_t subjects_in(unsigned low, unsigned high) {
-    if (low > 63) {
-        return 0;
-    }
-    const uint64_t from_low = ~uint64_t{0} << low;
-    return high > 62 ? from_low : from_low & ~uint64_t{0} >> (63 - high);
+    const uint64_t between = subjects_from(low) ^ subjects_from(high + 1);
+    return low <= high ? between : ~between;
 }
 
 // How many subjects a set has. For x86-64 without further options the compiler's own is a call.
@@ -231,7 +231,7 @@ inline kolfsein_answer ruled(const uint8_t *table, size_t nodes, uint64_t subjec
         while (i < group.end) {
             const uint8_t *record = table + HEADER + RECORD * i;
             const size_t next = i + word(record + 1);
-            if (resource < record[7] || resource > record[8] || action < record[9] || action > record[10]) {
+            if (!in_range(resource, record[7], record[8]) || !in_range(action, record[9], record[10])) {
                 i = next;
                 continue;
             }

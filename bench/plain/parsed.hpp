@@ -18,11 +18,11 @@ struct Node {
 
     bool is_rule() const { return kind >= 4; }
 
-    // Whether its target holds for one value in each field.
+    // Whether its target holds for one value in each field, at most 255 each.
     template <class Values>
     bool holds(const Values &values) const {
-        return low[0] <= values[0] && values[0] <= high[0] && low[1] <= values[1] && values[1] <= high[1] &&
-               low[2] <= values[2] && values[2] <= high[2];
+        return in_range(values[0], low[0], high[0]) && in_range(values[1], low[1], high[1]) &&
+               in_range(values[2], low[2], high[2]);
     }
 
     // What a matching rule gives.

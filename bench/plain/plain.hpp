@@ -42,6 +42,12 @@ inline void put_word(uint8_t *at, size_t number) {
     at[1] = static_cast<uint8_t>(number);
 }
 
+// Whether a value is in a range: from low up to high, or, where low is above high, from low upward or up to high.
+// Counted from low on, with 0 after 255, it then comes no later than high.
+inline bool in_range(uint8_t value, uint8_t low, uint8_t high) {
+    return static_cast<uint8_t>(value - low) <= static_cast<uint8_t>(high - low);
+}
+
 // As kolfsein_read.
 kolfsein_answer read(const uint8_t *table, size_t table_len);
 
