@@ -1,14 +1,15 @@
 #!/usr/bin/env python3
-"""Writes four rule tables beside this script, the same bytes each time.
+"""Writes five rule tables beside this script, the same bytes each time.
 
 harbour.table           the small rulebook T of the requirements, 63 bytes
 harbour-standard.table  the same by the convention profile: its two rules beside a group have a group of their own
 scouts.table            an expansion for either of these: the scout may not attack
 rulebook.table          a rulebook of a whole game: 12 characters, 20 places, 10 deeds
+naval.table             a naval game: 6 seats in a ring, 8 waters round an island, 4 deeds
 
 A group is one of the four combining ways over a list of groups and cards. A card is permit(number, ..) or
 deny(number, ..). Each names the characters, places and deeds that it is for, as "thief" or "smuggler..thief"; what is
-left out is all of them.
+left out is all of them. A range may go round from the last name to the first: "seat4..seat1".
 """
 from pathlib import Path
 
@@ -60,20 +61,17 @@ attack
 smuggle steal burn
 """.split()
 
-FIELDS = (CHARACTERS, PLACES, DEEDS)
-
 
 def values(names, words):
-    """The lowest and the highest value of "name" or "first..last"; of all names for None."""
+    """Low and high of "name" or "first..last"; of all names for None."""
     if words is None:
         return 0, len(names) - 1
     first, _, last = words.partition("..")
     return names.index(first), names.index(last or first)
 
 
-def node(kind, card, children, character, place, deed):
-    ranges = [values(names, words) for names, words in zip(FIELDS, (character, place, deed))]
-    return kind, card, ranges, children
+def node(kind, card, children, *target):
+    return kind, card, target, children
 
 
 def first_applicable(children, character=None, place=None, deed=None):
@@ -228,19 +226,46 @@ RULEBOOK = first_applicable([
     permit_overrides([DAILY_LIFE, only_one_applicable([WATCH, FIGHTS, CRIME])]),
 ])
 
+# The naval game: a captain on each seat, and waters clockwise round an island.
+SEATS = [f"seat{number}" for number in range(6)]
 
-def records(tree):
+WATERS = """
+north northeast east southeast
+south southwest west northwest
+""".split()
+
+NAVAL_DEEDS = "sail fish board fire".split()
+
+# Seats 4, 5, 0 and 1 are the northern fleet, seats 2 and 3 the southern. Card 701 is for every seat, from seat 3 all
+# the way round. In the duels of the south seats 2 and 5 have both cards, and the players must agree.
+NAVAL = first_applicable([
+    deny(701, "seat3..seat2", "south", "fish"),
+    permit(702, "seat4..seat1", "west..east", "fish"),
+    permit(703, "seat2..seat3", "east..west", "fish"),
+    permit(704, deed="sail"),
+    first_applicable([
+        deny(711, "seat5..seat0", "northwest..north", "fire"),
+        permit(712, "seat0..seat4", "northwest..east"),
+    ], "seat4..seat1", deed="board..fire"),
+    only_one_applicable([
+        permit(721, "seat5..seat2"),
+        deny(722, "seat2..seat5"),
+    ], place="southeast..southwest", deed="board..fire"),
+])
+
+
+def records(tree, fields):
     """A record of 11 bytes for each node, a node before those under it."""
-    kind, card, ranges, children = tree
-    under = b"".join(records(child) for child in children)
+    kind, card, target, children = tree
+    under = b"".join(records(child, fields) for child in children)
     span = 1 + len(under) // 11
-    ends = bytes(end for low_high in ranges for end in low_high)
+    ends = bytes(end for names, words in zip(fields, target) for end in values(names, words))
     return bytes([kind]) + span.to_bytes(2, "big") + card.to_bytes(2, "big") + ends + under
 
 
-def table(tree):
-    body = records(tree)
-    maxima = bytes(len(names) - 1 for names in FIELDS)
+def table(tree, *fields):
+    body = records(tree, fields)
+    maxima = bytes(len(names) - 1 for names in fields)
     rest = bytes([1]) + maxima + (len(body) // 11).to_bytes(2, "big") + body
     return len(rest).to_bytes(2, "big") + rest
 
@@ -250,4 +275,5 @@ if __name__ == "__main__":
     (here / "harbour.table").write_bytes(bytes.fromhex(HARBOUR))
     (here / "harbour-standard.table").write_bytes(bytes.fromhex(HARBOUR_STANDARD))
     (here / "scouts.table").write_bytes(bytes.fromhex(SCOUTS))
-    (here / "rulebook.table").write_bytes(table(RULEBOOK))
+    (here / "rulebook.table").write_bytes(table(RULEBOOK, CHARACTERS, PLACES, DEEDS))
+    (here / "naval.table").write_bytes(table(NAVAL, SEATS, WATERS, NAVAL_DEEDS))
