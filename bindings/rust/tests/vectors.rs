@@ -11,13 +11,13 @@ const VECTORS: &str = include_str!("../../../crates/cases/stdin");
 
 /// How many cases there are of each call at least.
 const LEAST: [(&str, usize); 7] = [
-    ("read", 160),
-    ("rule", 650),
-    ("read_standard", 100),
-    ("rule_standard", 120),
-    ("build", 80),
-    ("attach", 160),
-    ("look_up", 330),
+    ("read", 195),
+    ("rule", 770),
+    ("read_standard", 110),
+    ("rule_standard", 140),
+    ("build", 110),
+    ("attach", 175),
+    ("look_up", 350),
 ];
 
 /// A call with its input, what is asked, and how many places or bytes are lent.
