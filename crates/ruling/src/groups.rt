@@ -8,7 +8,7 @@ use combining::Ways;
 use table::layout::card_at;
 use table::layout::count_at;
 use table::layout::kind_at;
-use table::layout::span_at;
+use table::layout::short_span_at;
 ghost use mathlib.Core.Path.{_≡_};
 ghost use Prim.Native.Nat.{_+_, _<_};
 ghost use lib.ListN.{length, set};
@@ -120,7 +120,7 @@ fn rule_run(
     let mut count = before;
     let mut i = first;
     while i < end {
-        let next = i + span_at(table, i);
+        let next = i + short_span_at(table, i);
         let left = members_left(table, members, others, i);
         if left != 0 {
             let child = rule_node(table, ways, left, others, i, next, cards, count);

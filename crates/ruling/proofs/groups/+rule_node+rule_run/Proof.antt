@@ -23,7 +23,7 @@ use Rattle.ruling.proofs.ChildByChild.{Before, before-first, before-end
 use Rattle.combining.proofs.Running.start.Reads as start-reads
 use Rattle.combining.proofs.Running.take.Reads as take-reads
 use Rattle.table.proofs.layout.kind_at.Reads as kind-at-reads
-use Rattle.table.proofs.layout.span_at.Reads as span-at-reads
+use Rattle.table.proofs.layout.short_span_at.Reads as short-span-at-reads
 use Rattle.ruling.proofs.groups.rule_node.Reads as rule-node
 use Rattle.ruling.proofs.groups.rule_node.Kinds as rule-node-kinds
 use Rattle.ruling.proofs.groups.+rule_node+rule_run.Lts-rule_node as rule-node-lts
@@ -69,8 +69,8 @@ abbrev rule-run-claims : ℕ → rule-run-lts.Claims
 rule-run-claims t = (
   start-reads.Asked,
   start-reads.Learnt,
-  span-at-reads.Asked,
-  span-at-reads.Learnt,
+  short-span-at-reads.Asked,
+  short-span-at-reads.Learnt,
   members-left-reads.Asked,
   members-left-reads.Learnt,
   rule-node-below t,
@@ -213,8 +213,8 @@ module _ {t : ℕ} (c : RunLeft t) where
   abbrev left-applies-to : ℕ → Bool
   left-applies-to = appliesToSome (run-table start-left) left (run-others start-left)
 
-  spanned : c .before .span-at .result ≡ span (run-table start-left) (child run-loop)
-  spanned = c .before .span-at .ensures .0
+  spanned : c .before .short-span-at .result ≡ span (run-table start-left) (child run-loop)
+  spanned = c .before .short-span-at .ensures .0
 
   left-applying : AppliesToEach (run-table start-left) left (run-others start-left) (child run-loop)
   left-applying =
@@ -238,10 +238,10 @@ module _ {t : ℕ} (c : RunLeft t) where
         run-loop .before .loop .inv .0 .ahead .whole .inside,
       )
 
-  passed-on : MembersPass (run-table start-left) (start-left .args .members) (run-others start-left) (child run-loop + c .before .span-at .result)
+  passed-on : MembersPass (run-table start-left) (start-left .args .members) (run-others start-left) (child run-loop + c .before .short-span-at .result)
   passed-on =
       members-after (run-table start-left) (run-others start-left) (run-well-formed start-left) (start-left .args .members) (child run-loop)
-      (c .before .span-at .result) (child-some run-loop) spanned (run-loop .before .loop .inv .1)
+      (c .before .short-span-at .result) (child-some run-loop) spanned (run-loop .before .loop .inv .1)
 
 rule-run-start-requires : (t : ℕ) → rule-run-lts.Need-start-requires (rule-run-claims t) (rule-run-at t) rule-run.Post rule-run-Inv-loop rule-run-μ-loop
 rule-run-start-requires t c κs = omega (arith, c .before .before .pre .1 .1 .0 .1)
@@ -251,15 +251,16 @@ rule-run-loop-holds t c =
     let p = c .before .before .before .pre .1 in
     (before-first (p .0 .0) (p .1 .0 .0) (c .start .ensures), p .1 .1)
 
-rule-run-span-at-requires : (t : ℕ) → rule-run-lts.Need-span-at-requires (rule-run-claims t) (rule-run-at t) rule-run.Post rule-run-Inv-loop rule-run-μ-loop
-rule-run-span-at-requires t c κs = child-held c
+rule-run-short-span-at-requires : (t : ℕ) → rule-run-lts.Need-short-span-at-requires (rule-run-claims t) (rule-run-at t) rule-run.Post rule-run-Inv-loop rule-run-μ-loop
+rule-run-short-span-at-requires t c κs =
+    let w = run-well-formed (run-start c) in (child-held c, omega (arith, w .inside (child c) (child-some c), w .few))
 
 rule-run-add-next : (t : ℕ) → rule-run-lts.Need-add-next (rule-run-claims t) (rule-run-at t) rule-run.Post rule-run-Inv-loop rule-run-μ-loop
 rule-run-add-next t c =
     let l = c .before in
     let w = run-well-formed (run-start l) in
     let b = l .before .loop .inv .0 in
-    omega (arith, before-within w b (l .loop-test .taken), c .span-at .ensures .0, b .ahead .whole .inside, w .few)
+    omega (arith, before-within w b (l .loop-test .taken), c .short-span-at .ensures .0, b .ahead .whole .inside, w .few)
 
 rule-run-members-left-requires : (t : ℕ) → rule-run-lts.Need-members-left-requires (rule-run-claims t) (rule-run-at t) rule-run.Post rule-run-Inv-loop rule-run-μ-loop
 rule-run-members-left-requires t c κs = child-held (c .before)
@@ -348,7 +349,7 @@ pub +rule-node+rule-run-spec : {M : Type 1} → statement M
     rule-run-μ-loop
     (rule-run-start-requires t)
     (rule-run-loop-holds t)
-    (rule-run-span-at-requires t)
+    (rule-run-short-span-at-requires t)
     (rule-run-add-next t)
     (rule-run-members-left-requires t)
     (rule-run-rule-node-requires t)
