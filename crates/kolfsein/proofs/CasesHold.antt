@@ -34,7 +34,7 @@ use Rattle.diagram.proofs.DiagramGoesByRulingsWithin.{diagram-goes-by-rulings-w
 use Rattle.diagram.proofs.OneRulingForAll.{none-everywhere}
 use Rattle.building.specs.Built.{diagramOf}
 use Rattle.building.proofs.BuildAnswers.{accepted-built}
-use Rattle.kolfsein.specs.Cases.{tableT, overOnlyOne, emptyRoot, emptyDiagram, permitFirst, denyFirst, ruleFor1InGroupFor0, silentBesidePermit, oneSilent, twoSilent, emptyBesidePermit, ruleRoot, twoFaults, groupsOfRules, noScoutAttacks, attachedT, nested, onLevels, branching, of127Nodes, GivesRuling, GivesDiagram, Cases}
+use Rattle.kolfsein.specs.Cases.{tableT, overOnlyOne, emptyRoot, emptyDiagram, permitFirst, denyFirst, ruleFor1InGroupFor0, silentBesidePermit, oneSilent, twoSilent, emptyBesidePermit, ruleRoot, twoFaults, groupsOfRules, noScoutAttacks, attachedT, nested, onLevels, branching, of127Nodes, seats, seatsApart, GivesRuling, GivesDiagram, Cases}
 
 either : (b : Bool) (n : ℕ) → cond b n n ≡ n
 either true n = refl
@@ -108,7 +108,7 @@ module _ (kind subject resource action : ℕ) (few : kind < 4) where
       }
 
 pub cases-hold : Cases
-unfolding noScoutAttacks attachedT nested onLevels branching of127Nodes withWord attachedBytes headersDiffer tooLarge hasLevel diagram walk enter extend below terminal node edge lookUp tableT overOnlyOne permitFirst denyFirst ruleFor1InGroupFor0 silentBesidePermit oneSilent twoSilent emptyBesidePermit ruleRoot twoFaults groupsOfRules emptyRoot holdsRule holdsGroup mixedGroup ruleInOnlyOne ruleAsRoot profileRefusals childrenFrom upward settled word maximum valuesFrom maxima count header recordSize start recordByte recordWord parent level lengthFault versionFault countFault kindFault spanFault levelFault rangeFault rangesFault cardFault tableRefusals forestWithin inRange targetHolds applies bit someBelow countBelow appliesToSome subjectsFault gives cardsFrom le? lt? eq? iff? not? and? or? when? one-more? each? scan? start? entry-before? terminal-holds? sound-terminal? sound-node? sound-entry? sound?
+unfolding noScoutAttacks attachedT nested onLevels branching of127Nodes seats seatsApart withWord attachedBytes headersDiffer tooLarge hasLevel diagram walk enter extend below terminal node edge lookUp tableT overOnlyOne permitFirst denyFirst ruleFor1InGroupFor0 silentBesidePermit oneSilent twoSilent emptyBesidePermit ruleRoot twoFaults groupsOfRules emptyRoot holdsRule holdsGroup mixedGroup ruleInOnlyOne ruleAsRoot profileRefusals childrenFrom upward settled word maximum valuesFrom maxima count header recordSize start recordByte recordWord parent level lengthFault versionFault countFault kindFault spanFault levelFault rangeFault rangesFault cardFault tableRefusals forestWithin inRange targetHolds applies bit someBelow countBelow appliesToSome subjectsFault gives cardsFrom le? lt? eq? iff? not? and? or? when? one-more? each? scan? start? entry-before? terminal-holds? sound-terminal? sound-node? sound-entry? sound?
 cases-hold =
     record {
       t-0-0-0 = record { answer = refl; holds = refl };
@@ -181,4 +181,25 @@ cases-hold =
       rule-before-headers = record { answer = refl; holds = refl };
       headers-before-levels = record { answer = refl; holds = refl };
       levels-before-room = record { answer = refl; holds = refl };
+      seats-read = refl;
+      seat-4 = record { answer = refl; holds = refl };
+      seat-5 = record { answer = refl; holds = refl };
+      seat-0 = record { answer = refl; holds = refl };
+      seat-1 = record { answer = refl; holds = refl };
+      seat-2 = record { answer = refl; holds = refl };
+      seat-3 = record { answer = refl; holds = refl };
+      seats-3-and-4 = record { answer = refl; holds = refl };
+      seats-1-and-2 = record { answer = refl; holds = refl };
+      seats-2-and-3 = record { answer = refl; holds = refl };
+      seat-1-standard = record { answer = refl; holds = refl };
+      seat-1-looked-up = record { answer = refl; holds = refl };
+      seat-2-looked-up = record { answer = refl; holds = refl };
+      seat-4-looked-up = record { answer = refl; holds = refl };
+      seats-apart = record { first-built = refl; second-built = refl; equal = refl };
+      seats-3-to-2-seat-2 = record { answer = refl; holds = refl };
+      seats-3-to-2-seat-3 = record { answer = refl; holds = refl };
+      seats-3-to-2-built = record { first-built = refl; second-built = refl; equal = refl };
+      low-over = refl;
+      high-over = refl;
+      both-over = refl;
     }

@@ -16,11 +16,13 @@ use Rattle.table.specs.Layout.{maximum, maxima, count, kind}
 use Rattle.table.specs.Ranges.{rangesWord}
 use Rattle.table.specs.Reading.{tableRefusals, Accepted}
 use Rattle.table.proofs.Accepting.{accepted-reading}
+use Rattle.table.proofs.Good.{ranges-within}
 use Rattle.table.proofs.AcceptedIsWellFormed.{well-formed}
 use Rattle.table.proofs.RangesReadBack.{ranges-fit, reads-back}
 use Rattle.ruling.specs.Targets.{targetHolds, applies}
 use Rattle.ruling.specs.Subjects.{mostSubjects, appliesToSome, size, AskedWithin}
 use Rattle.ruling.specs.Ruling.{groups, groupsTogether, rulingRefusals, ruling, ruledList}
+use Rattle.ruling.proofs.InRange.{plain-members, wrapped-members, all-members, ends-included}
 use Rattle.ruling.proofs.DecisionAsWorded.{decision-as-worded}
 use Rattle.ruling.proofs.Throughout.{pass-root}
 use Rattle.ruling.proofs.AppliesIsClosed.{applies-closed, applies-to-some-closed}
@@ -191,6 +193,11 @@ demands-hold =
       attached-holds = attaching.attached-holds;
       attached-holds-together = attaching.attached-holds-together;
       attached-fails = attaching.attached-fails;
+      wrapped-range = wrapped-members;
+      plain-range = plain-members;
+      whole-range = all-members;
+      ends-in-range = ends-included;
+      ranges-passed = ranges-within;
       diagram-rules = through;
       equal-exactly = equal;
       decision-worded = λ t q c. sym (decision-as-worded t q c 0 (well-formed t c .some) (pass-root t (targetHolds t q)));

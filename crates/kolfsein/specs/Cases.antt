@@ -9,6 +9,7 @@ use Rattle.answer.specs.declared.Answer.{Answer}
 use Rattle.combining.specs.Kinds.{firstApplicableKind, onlyOneApplicableKind, permitOverridesKind, denyOverridesKind}
 use Rattle.combining.specs.Ways.{notApplicable, permit, deny, indeterminate}
 use Rattle.table.specs.Layout.{maximum}
+use Rattle.table.specs.Reading.{reading}
 use Rattle.ruling.specs.Subjects.{size, AskedWithin}
 use Rattle.ruling.specs.Ruling.{ruling, ruledList}
 use Rattle.standard.specs.Profile.{readingStandard}
@@ -168,6 +169,23 @@ branching (suc n) more = groupFor0 (2 ^ suc n - 2) (branching n (branching n mor
 unfoldable pub of127Nodes : List ℕ
 of127Nodes = 5 ∷ 123 ∷ 1 ∷ 0 ∷ 0 ∷ 0 ∷ 0 ∷ 127 ∷ branching 7 []
 
+-- paper 7, "In the naval game seats form a ring, and a card says 'seat 4 to seat 1'": of six seats, 0 to 5, a permit rule with card 1 for those from
+-- low to high, before n nodes more under a root for all seats; the other maxima are 0
+abbrev seatsBefore : ℕ → ℕ → ℕ → List ℕ → List ℕ
+seatsBefore low high n more =
+    0 ∷ (11 * n + 28) ∷ 1 ∷ 5 ∷ 0 ∷ 0 ∷ 0 ∷ (n + 2)
+    ∷ 0 ∷ 0 ∷ (n + 2) ∷ 0 ∷ 0 ∷ 0 ∷ 5 ∷ 0 ∷ 0 ∷ 0 ∷ 0
+    ∷ 4 ∷ 0 ∷ 1 ∷ 0 ∷ 1 ∷ low ∷ high ∷ 0 ∷ 0 ∷ 0 ∷ 0
+    ∷ more
+
+-- with that card alone
+unfoldable pub seats : ℕ → ℕ → List ℕ
+seats low high = seatsBefore low high 0 []
+
+-- "values from low upward or up to high", for seat 4 to seat 1: the card once for seats 4 and 5, and once more for seats 0 and 1
+unfoldable pub seatsApart : List ℕ
+seatsApart = seatsBefore 4 5 1 (4 ∷ 0 ∷ 1 ∷ 0 ∷ 1 ∷ 0 ∷ 1 ∷ 0 ∷ 0 ∷ 0 ∷ 0 ∷ [])
+
 -- "bit k stands for figure k": the set of subject k alone
 abbrev pub only : ℕ → ℕ
 only k = 2 ^ k
@@ -196,6 +214,13 @@ pub record GivesDiagram (t : List ℕ) (n : ℕ) (a : Answer) (d : List ℕ) : T
 pub record GivesTable (b e : List ℕ) (n : ℕ) (a : Answer) (t : List ℕ) : Type 0 where
   pub answer : attached b e n ≡ a
   pub holds : attachedTable b e n ≡ t
+
+-- Table t gives n seats that ask together, the set s, that card, or none.
+abbrev pub GivesCard : List ℕ → ℕ → ℕ → Type 0
+GivesCard t s n = GivesRuling t s (0 ∷ 0 ∷ []) 1 (ruled permit 1 n) (1 ∷ [])
+
+abbrev pub GivesNone : List ℕ → ℕ → ℕ → Type 0
+GivesNone t s n = GivesRuling t s (0 ∷ 0 ∷ []) 1 (ruled notApplicable 0 n) (0 ∷ [])
 
 -- "two tables with equal diagrams": both are built in n places, which then hold the same
 pub record EqualDiagrams (t u : List ℕ) (n : ℕ) : Type 0 where
@@ -326,3 +351,30 @@ pub record Cases : Type 0 where
   pub rule-before-headers : GivesTable ruleRoot noScoutAttacks 1 (refused 17 0) (0 ∷ [])
   pub headers-before-levels : GivesTable (tableT 3) (onLevels 8) 1 (refused 18 0) (0 ∷ [])
   pub levels-before-room : GivesTable (emptyRoot 0 0 0 0) (onLevels 8) 1 (refused 19 0) (0 ∷ [])
+  -- paper 7, "seat 4 to seat 1": what was refused 7 is read; the card is for seats 4, 5, 0 and 1, and for no other
+  pub seats-read : reading (seats 4 1) ≡ counted 2
+  pub seat-4 : GivesCard (seats 4 1) (only 4) 1
+  pub seat-5 : GivesCard (seats 4 1) (only 5) 1
+  pub seat-0 : GivesCard (seats 4 1) (only 0) 1
+  pub seat-1 : GivesCard (seats 4 1) (only 1) 1
+  pub seat-2 : GivesNone (seats 4 1) (only 2) 1
+  pub seat-3 : GivesNone (seats 4 1) (only 3) 1
+  -- for a set: one seat of the range is enough, on either side of where it wraps
+  pub seats-3-and-4 : GivesCard (seats 4 1) (only 3 + only 4) 2
+  pub seats-1-and-2 : GivesCard (seats 4 1) (only 1 + only 2) 2
+  pub seats-2-and-3 : GivesNone (seats 4 1) (only 2 + only 3) 2
+  -- by the profile
+  pub seat-1-standard : GivesStandard (seats 4 1) (only 1) (0 ∷ 0 ∷ []) 1 (ruled permit 1 1) (1 ∷ [])
+  -- by the diagram, which is that of the card once for seats 4 and 5 and once more for seats 0 and 1
+  pub seat-1-looked-up : GivesLookUp (builtDiagram (seats 4 1) 64) (1 ∷ 0 ∷ 0 ∷ []) 1 (ruled permit 1 0) (1 ∷ [])
+  pub seat-2-looked-up : GivesLookUp (builtDiagram (seats 4 1) 64) (2 ∷ 0 ∷ 0 ∷ []) 1 (ruled notApplicable 0 0) (0 ∷ [])
+  pub seat-4-looked-up : GivesLookUp (builtDiagram (seats 4 1) 64) (4 ∷ 0 ∷ 0 ∷ []) 1 (ruled permit 1 0) (1 ∷ [])
+  pub seats-apart : EqualDiagrams (seats 4 1) seatsApart 64
+  -- "Low one more than high takes in every value.": as the range from 0 to the maximum does
+  pub seats-3-to-2-seat-2 : GivesCard (seats 3 2) (only 2) 1
+  pub seats-3-to-2-seat-3 : GivesCard (seats 3 2) (only 3) 1
+  pub seats-3-to-2-built : EqualDiagrams (seats 3 2) (seats 0 5) 64
+  -- "Refusal 7 remains only for a low or high above the maximum": each by itself, and both where the low is above its high
+  pub low-over : reading (seats 6 1) ≡ refused 7 1
+  pub high-over : reading (seats 4 6) ≡ refused 7 1
+  pub both-over : reading (seats 7 6) ≡ refused 7 1

@@ -2,7 +2,7 @@
 -- Assumes nothing: these are definitions.
 use mathlib.Core.Bool.{Bool, true, false}
 use mathlib.Core.List.{List, [], _∷_, _++_, map}
-use mathlib.Core.Logic.{_↔_}
+use mathlib.Core.Logic.{_⊎_, _↔_}
 use mathlib.Core.Option.{some}
 use mathlib.Core.Path.{_≡_}
 use Prim.Native.Nat.{ℕ, suc, _+_, _-_, _^_, _≤_, _<_}
@@ -18,9 +18,9 @@ use Rattle.combining.specs.Ways.{notApplicable, indeterminate}
 use Rattle.table.specs.Layout.{Bytes, maximum, maxima, count, kind, card, low, high}
 use Rattle.table.specs.Ranges.{rangesWord, lowOf, highOf}
 use Rattle.table.specs.Tree.{isRule, parent, level, hasLevel, Above}
-use Rattle.table.specs.Reading.{tableRefusals, reading, Accepted}
+use Rattle.table.specs.Reading.{rangesFault, tableRefusals, reading, Accepted}
 use Rattle.ruling.specs.Forest.{under, childrenOf, trees}
-use Rattle.ruling.specs.Targets.{targetHolds, targetHoldsFrom, applies}
+use Rattle.ruling.specs.Targets.{inRange, targetHolds, targetHoldsFrom, applies}
 use Rattle.ruling.specs.Closed.{Closed}
 use Rattle.ruling.specs.Subjects.{mostSubjects, member, appliesToSome, size, AskedWithin}
 use Rattle.ruling.specs.Meaning.{gives, childOf, children, decision, runningDecision, matches, matching}
@@ -212,6 +212,15 @@ pub record Demands : Type 0 where
       groupsTogether (attachedBytes b e) s others ≡ meaningWith (appliesToSome b s others) (appliesToSome e s others) b e
   pub attached-fails : (b e : List ℕ) → Attaches b e → (q : List ℕ) → targetHolds b q 0 ≡ false →
       groups (attachedBytes b e) q ≡ record { decision = notApplicable; cards = [] }
+  -- paper 7, "A low above its high now means values from low upward or up to high"; any other range has those from low up to high, as before
+  pub wrapped-range : (low high v : ℕ) → high < low → (inRange low high v ≡ true) ↔ ((low ≤ v) ⊎ (v ≤ high))
+  pub plain-range : (low high v : ℕ) → low ≤ high → (inRange low high v ≡ true) ↔ ((low ≤ v) × (v ≤ high))
+  -- "Low one more than high takes in every value."; and no range is empty, since "both ends [are] included"
+  pub whole-range : (high v : ℕ) → inRange (suc high) high v ≡ true
+  pub ends-in-range : (low high : ℕ) → (inRange low high low ≡ true) × (inRange low high high ≡ true)
+  -- "Refusal 7 remains only for a low or high above the maximum": node i passes it exactly where there is none
+  pub ranges-passed : (t : List ℕ) (i : ℕ) →
+      (rangesFault t i ≡ false) ↔ ((f : ℕ) → f < fields → (low t i f ≤ maximum t f) × (high t i f ≤ maximum t f))
   -- Demand 3: "Through a diagram built here from any accepted table, in whatever room was lent, any question within the table's fields,
   -- asked with any list long enough for its cards, gets a ruling whose decision, count and list, number for number, are the ones the groups
   -- give to that question". "Any slice that starts with this used part is the same built diagram, whatever follows it". Paper 1: "diagrams

@@ -3,7 +3,7 @@
 use mathlib.Core.Path.{_≡_, refl, sym, ap, ap₂, _∙_}
 use mathlib.Core.Bool.{Bool, true, false, not, cond, _&&_, _||_, false≢true}
 use mathlib.Core.List.{List}
-use mathlib.Core.Logic.{⊎-elim}
+use mathlib.Core.Logic.{_↔_, ⊎-elim}
 use Prim.Native.Nat.{ℕ, zero, suc, _≤_, _<_}
 use native.Mathlib.Nat.{pos-of-ne-zero, eq-zero-or-pos}
 use native.Mathlib.Omega.{arith}
@@ -39,15 +39,17 @@ module _ (t : List ℕ) (i : ℕ) where
       let b = neither (eqb (span t i) 0) (isRule t i && not (eqb (span t i) 1)) (a .0) in
       (b .0, b .1, a .1)
 
-  range-parts : (f : ℕ) → rangeFault t i f ≡ false → (low t i f ≤ maximum t f) × (high t i f ≤ maximum t f)
-  unfolding rangeFault
-  range-parts f e =
-      let a = neither (ltb (maximum t f) (low t i f)) (ltb (maximum t f) (high t i f)) e in
-      (ltb-false _ _ (a .0), ltb-false _ _ (a .1))
-
-  ranges-parts : rangesFault t i ≡ false → (f : ℕ) → f < fields → rangeFault t i f ≡ false
-  unfolding rangesFault
-  ranges-parts e f l = none-each (rangeFault t i) fields e f l
+  -- refusal 7 passes a node exactly where both ends of each range lie within the maximum
+  pub ranges-within : (rangesFault t i ≡ false) ↔ ((f : ℕ) → f < fields → (low t i f ≤ maximum t f) × (high t i f ≤ maximum t f))
+  unfolding rangesFault rangeFault
+  ranges-within = (
+    λ e f l.
+        let a = neither (ltb (maximum t f) (low t i f)) (ltb (maximum t f) (high t i f)) (none-each (rangeFault t i) fields e f l) in
+        (ltb-false _ _ (a .0), ltb-false _ _ (a .1)),
+    λ h.
+        some-none (rangeFault t i) fields
+        (λ f l. ap₂ (λ a b. a || b) (le-ltb (maximum t f) (low t i f) (h f l .0)) (le-ltb (maximum t f) (high t i f) (h f l .1))),
+  )
 
   card-rule : cardFault t i ≡ false → 4 ≤ kind t i → 1 ≤ card t i
   unfolding cardFault
@@ -83,8 +85,8 @@ module _ (t : List ℕ) (i : ℕ) where
         root = λ z. eqb-true _ _ (not-false _ (sym (wrong-end-root t i z) ∙ p .2));
         inside = λ l. ltb-false _ _ (sym (wrong-end-child t i l) ∙ p .2);
         levels = level-part (e .1 .1 .0);
-        low-within = λ f h. range-parts f (ranges-parts ranges f h) .0;
-        high-within = λ f h. range-parts f (ranges-parts ranges f h) .1;
+        low-within = λ f h. ranges-within .0 ranges f h .0;
+        high-within = λ f h. ranges-within .0 ranges f h .1;
         carded = card-rule cards;
         plain = card-group cards;
       }
@@ -124,13 +126,8 @@ module _ (t : List ℕ) (i : ℕ) (g : Good t i) where
   unfolding levelFault
   level-passes = le-ltb 8 (level t i) (g .levels)
 
-  range-passes : (f : ℕ) → f < fields → rangeFault t i f ≡ false
-  unfolding rangeFault
-  range-passes f l = ap₂ (λ a b. a || b) (le-ltb (maximum t f) (low t i f) (g .low-within f l)) (le-ltb (maximum t f) (high t i f) (g .high-within f l))
-
   ranges-pass : rangesFault t i ≡ false
-  unfolding rangesFault
-  ranges-pass = some-none (rangeFault t i) fields range-passes
+  ranges-pass = ranges-within t i .1 (λ f l. (g .low-within f l, g .high-within f l))
 
   pub good-passes : None (nodeRefusals t i)
   good-passes =
