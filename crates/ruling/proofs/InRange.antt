@@ -1,7 +1,7 @@
 -- Laws of a value in a range, which may wrap: paper 7.
 -- Assumes nothing.
 use mathlib.Core.Path.{_≡_, sym, ap, _∙_}
-use mathlib.Core.Bool.{true, cond, _&&_, _||_}
+use mathlib.Core.Bool.{true, _&&_, _||_}
 use mathlib.Core.Logic.{_⊎_, inl, inr, ⊎-elim, _↔_}
 use Prim.Native.Nat.{ℕ, suc, _+_, _-_, _%_, _≤_, _<_}
 use native.Mathlib.Nat.{mod-eq-of-lt, mod-eq-sub-mod}
@@ -15,11 +15,11 @@ module _ (low high v : ℕ) where
   -- a range that does not wrap is as before
   pub in-plain : low ≤ high → inRange low high v ≡ (leb low v && leb v high)
   unfolding inRange
-  in-plain l = ap (λ b. cond b (leb low v || leb v high) (leb low v && leb v high)) (le-ltb high low l)
+  in-plain l = simp (le-ltb high low l)
 
   pub in-wrapped : high < low → inRange low high v ≡ (leb low v || leb v high)
   unfolding inRange
-  in-wrapped l = ap (λ b. cond b (leb low v || leb v high) (leb low v && leb v high)) (lt-ltb high low l)
+  in-wrapped l = simp (lt-ltb high low l)
 
   -- its members are those from low up to high
   pub plain-members : low ≤ high → (inRange low high v ≡ true) ↔ ((low ≤ v) × (v ≤ high))

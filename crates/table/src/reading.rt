@@ -115,11 +115,9 @@ fn range_fault(table: &[u8], i: usize, field: usize) -> bool
     ensures { λ r. ⌜ r ≡ rangeFault (now (table .entry)) i field ⌝ }
 {
     let maximum = maximum_at(table, field);
-    if maximum < low_at(table, i, field) {
-        true
-    } else {
-        maximum < high_at(table, i, field)
-    }
+    let low = low_at(table, i, field);
+    let high = high_at(table, i, field);
+    if maximum < low { true } else { maximum < high }
 }
 
 // Refusal 7: a low or a high over the maximum.

@@ -11,18 +11,20 @@ maximum-at-requires c κs = let s = c .before in (node-header (s .args .table .n
 
 returns : tie.Need-returns
 returns c =
-    let low = c .before in
+    let high = c .before in
+    let low = high .before in
     let most = low .before in
     let s = most .before .before .args in
     range-low (s .table .now) (s .i) (s .field) (most .maximum-at .result) (low .low-at .result) (most .maximum-at .ensures) (low .low-at .ensures) (c .if1 .taken)
 
 returns-2 : tie.Need-returns-2
 returns-2 c =
-    let low = c .before .before in
+    let high = c .before in
+    let low = high .before in
     let most = low .before in
     let s = most .before .before .args in
     range-high (s .table .now) (s .i) (s .field) (most .maximum-at .result) (low .low-at .result) (most .maximum-at .ensures) (low .low-at .ensures)
-    (c .high-at .result) (c .high-at .ensures) (c .before .if1 .left)
+    (high .high-at .result) (high .high-at .ensures) (c .if1 .left)
 
 pub range-fault-spec : {M : Type 1} → statement M
 range-fault-spec =
