@@ -11,7 +11,7 @@ use crate::pairs::builds;
 #[test]
 fn generated_tables() {
     let mut compare = Compare::new("ruling by generated tables");
-    for seed in 0..20_000 {
+    for seed in 0..25_000 {
         compare.case("seed", seed);
         let mut random = Random::new(seed);
         let maxima = any_maxima(&mut random);
@@ -27,9 +27,9 @@ fn generated_tables() {
         }
     }
     compare.every_decision(50_000);
-    compare.silent_groups(5_500);
+    compare.silent_groups(7_000);
     compare.every_set(1_500);
-    compare.end(75_000_000, (0..=10).chain([13]), 4_500);
+    compare.end(95_000_000, (0..=10).chain([13]), 4_500);
 }
 
 /// Rules on each set with every list, and on each subject by the diagram.

@@ -47,7 +47,7 @@ fn part_subjects(random: &mut Random, table: &mut Outline) {
 fn members_by_themselves() {
     let mut compare = Compare::new("sets beside their members");
     let mut silent = 0;
-    for seed in 0..1_000 {
+    for seed in 0..1_800 {
         compare.case("seed", seed);
         let mut random = Random::new(seed);
         let outline = some_table(&mut random);
@@ -85,9 +85,9 @@ fn members_by_themselves() {
     }
     assert!(silent >= 120, "silent groups of two members: {silent}");
     compare.every_decision(1_000);
-    compare.silent_groups(280);
+    compare.silent_groups(500);
     compare.every_set(40);
-    compare.end(18_000_000, [0, 13], 500);
+    compare.end(34_000_000, [0, 13], 500);
 }
 
 /// The table with one subject alone: a node applies to it exactly where it can apply to a subject of a run. A node for
@@ -118,7 +118,7 @@ fn without_subjects(table: &Outline, run: &[u16]) -> Outline {
 #[test]
 fn runs_of_subjects() {
     let mut compare = Compare::new("runs of subjects");
-    for seed in 0..3_000 {
+    for seed in 0..3_400 {
         compare.case("seed", seed);
         let mut random = Random::new(seed);
         let outline = some_table(&mut random);
@@ -137,7 +137,7 @@ fn runs_of_subjects() {
         }
     }
     compare.every_decision(1_000);
-    compare.silent_groups(900);
+    compare.silent_groups(1_000);
     compare.every_set(10);
-    compare.end(5_000_000, [0, 10], 5_000);
+    compare.end(6_000_000, [0, 10], 5_000);
 }

@@ -111,7 +111,7 @@ fn one_fault() {
 fn generated_tables() {
     let mut compare = Compare::new("generated tables by the profile");
     let mut earlier = 0;
-    for seed in 0..16_000 {
+    for seed in 0..17_000 {
         compare.case("seed", seed);
         let mut random = Random::new(seed);
         let maxima = any_maxima(&mut random);
@@ -135,7 +135,7 @@ fn generated_tables() {
     assert!(earlier >= 250, "15 earlier than 14: {earlier}");
     compare.every_decision(5_000);
     compare.silent_groups(600);
-    compare.every_set(180);
+    compare.every_set(200);
     compare.end(9_500_000, (0..=10).chain(13..=16), 200);
 }
 

@@ -30,7 +30,7 @@ const NUMBERS: usize = 20;
 
 /// How many tests compare, and how many comparisons all of them make at least.
 const TESTS: usize = 29;
-const COMPARISONS: u64 = 850_000_000;
+const COMPARISONS: u64 = 900_000_000;
 
 /// What the tests that ended did.
 static ENDED: Mutex<Ended> = Mutex::new(Ended {
