@@ -2,8 +2,8 @@
 use answer::OTHERS;
 use sets::WORD;
 use sets::next_at;
-use std::num::wrapping_sub_u16;
 use std::num::wrapping_sub_u8;
+use std::num::wrapping_sub_u16;
 use table::layout::high_of;
 use table::layout::low_of;
 use table::layout::ranges_at;
@@ -39,7 +39,11 @@ pub fn byte_in_range(low: u8, high: u8, value: u8) -> bool
 fn subjects_from(low: u8) -> u64
     ensures { λ r. ⌜ ((k : ℕ) → k < mostSubjects → member r k ≡ leb low k) ⌝ }
 {
-    if low as usize >= WORD { 0 } else { ALL << low as usize }
+    if low as usize >= WORD {
+        0
+    } else {
+        ALL << low as usize
+    }
 }
 
 // The subjects up to high, as a set.
