@@ -22,7 +22,7 @@ use Rattle.table.proofs.RangesReadBack.{ranges-fit, reads-back}
 use Rattle.ruling.specs.Targets.{targetHolds, applies}
 use Rattle.ruling.specs.Subjects.{mostSubjects, appliesToSome, size, AskedWithin}
 use Rattle.ruling.specs.Ruling.{groups, groupsTogether, rulingRefusals, ruling, ruledList}
-use Rattle.ruling.proofs.InRange.{plain-members, wrapped-members, all-members, ends-included}
+use Rattle.ruling.proofs.InRange.{unwrapped-members, wrapped-members, all-members, ends-included}
 use Rattle.ruling.proofs.DecisionAsWorded.{decision-as-worded}
 use Rattle.ruling.proofs.Throughout.{pass-root}
 use Rattle.ruling.proofs.AppliesIsClosed.{applies-closed, applies-to-some-closed}
@@ -194,7 +194,7 @@ demands-hold =
       attached-holds-together = attaching.attached-holds-together;
       attached-fails = attaching.attached-fails;
       wrapped-range = wrapped-members;
-      plain-range = plain-members;
+      unwrapped-range = unwrapped-members;
       whole-range = all-members;
       ends-in-range = ends-included;
       ranges-passed = ranges-within;

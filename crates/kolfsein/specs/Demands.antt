@@ -212,10 +212,10 @@ pub record Demands : Type 0 where
       groupsTogether (attachedBytes b e) s others ≡ meaningWith (appliesToSome b s others) (appliesToSome e s others) b e
   pub attached-fails : (b e : List ℕ) → Attaches b e → (q : List ℕ) → targetHolds b q 0 ≡ false →
       groups (attachedBytes b e) q ≡ record { decision = notApplicable; cards = [] }
-  -- paper 7, "A low above its high now means values from low upward or up to high"; any other range has those from low up to high, as before
+  -- paper 7, "A low above its high now means values from low upward or up to high"; any other range has those from low up to high
   pub wrapped-range : (low high v : ℕ) → high < low → (inRange low high v ≡ true) ↔ ((low ≤ v) ⊎ (v ≤ high))
-  pub plain-range : (low high v : ℕ) → low ≤ high → (inRange low high v ≡ true) ↔ ((low ≤ v) × (v ≤ high))
-  -- "Low one more than high takes in every value."; and no range is empty, since "both ends [are] included"
+  pub unwrapped-range : (low high v : ℕ) → low ≤ high → (inRange low high v ≡ true) ↔ ((low ≤ v) × (v ≤ high))
+  -- "Low one more than high takes in every value."; and no range is empty: "both ends included"
   pub whole-range : (high v : ℕ) → inRange (suc high) high v ≡ true
   pub ends-in-range : (low high : ℕ) → (inRange low high low ≡ true) × (inRange low high high ≡ true)
   -- "Refusal 7 remains only for a low or high above the maximum": node i passes it exactly where there is none

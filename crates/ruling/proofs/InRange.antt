@@ -12,26 +12,26 @@ use Rattle.answer.proofs.Tests.{lt-or-ge, both, one-of, or-true, passes-alike}
 use Rattle.ruling.specs.Targets.{inRange}
 
 module _ (low high v : ℕ) where
-  -- a range that does not wrap is as before
-  pub in-plain : low ≤ high → inRange low high v ≡ (leb low v && leb v high)
+  -- a range that does not wrap asks for both ends, and one that wraps for either
+  pub in-unwrapped : low ≤ high → inRange low high v ≡ (leb low v && leb v high)
   unfolding inRange
-  in-plain l = simp (le-ltb high low l)
+  in-unwrapped l = simp (le-ltb high low l)
 
   pub in-wrapped : high < low → inRange low high v ≡ (leb low v || leb v high)
   unfolding inRange
   in-wrapped l = simp (lt-ltb high low l)
 
-  -- its members are those from low up to high
-  pub plain-members : low ≤ high → (inRange low high v ≡ true) ↔ ((low ≤ v) × (v ≤ high))
-  plain-members l = (there, back)
+  -- so the members of the one are those from low up to high
+  pub unwrapped-members : low ≤ high → (inRange low high v ≡ true) ↔ ((low ≤ v) × (v ≤ high))
+  unwrapped-members l = (there, back)
     where
       there : inRange low high v ≡ true → (low ≤ v) × (v ≤ high)
-      there e = let h = both (leb low v) (leb v high) (sym (in-plain l) ∙ e) in (leb-true low v (h .0), leb-true v high (h .1))
+      there e = let h = both (leb low v) (leb v high) (sym (in-unwrapped l) ∙ e) in (leb-true low v (h .0), leb-true v high (h .1))
 
       back : (low ≤ v) × (v ≤ high) → inRange low high v ≡ true
-      back h = in-plain l ∙ ap (λ b. b && leb v high) (le-leb low v (h .0)) ∙ le-leb v high (h .1)
+      back h = in-unwrapped l ∙ ap (λ b. b && leb v high) (le-leb low v (h .0)) ∙ le-leb v high (h .1)
 
-  -- those of a wrapped range are those from low up and those up to high
+  -- and those of the other are those from low up and those up to high
   pub wrapped-members : high < low → (inRange low high v ≡ true) ↔ ((low ≤ v) ⊎ (v ≤ high))
   wrapped-members l = (there, back)
     where
@@ -60,7 +60,7 @@ ends-included low high =
     (λ (l : high < low).
     (wrapped-members low high low l .1 (inl (omega arith)), wrapped-members low high high l .1 (inr (omega arith))))
     (λ (l : low ≤ high).
-    (plain-members low high low l .1 (omega arith, l), plain-members low high high l .1 (l, omega arith)))
+    (unwrapped-members low high low l .1 (omega arith, l), unwrapped-members low high high l .1 (l, omega arith)))
     (lt-or-ge high low)
 
 -- going round m values
@@ -82,19 +82,19 @@ module _ (m low : ℕ) (l : low < m) where
 
   -- a value lies in a range exactly where it is met no later than the high end
   pub met-in-range : (high v a b : ℕ) → a < m → b < m → (a + low) % m ≡ v → (b + low) % m ≡ high → leb a b ≡ inRange low high v
-  met-in-range high v a b la lb ea eb = ⊎-elim plain wrapped (met high b lb eb)
+  met-in-range high v a b la lb ea eb = ⊎-elim unwrapped wrapped (met high b lb eb)
     where
-      plain : After high b → leb a b ≡ inRange low high v
-      plain w =
+      unwrapped : After high b → leb a b ≡ inRange low high v
+      unwrapped w =
           passes-alike (leb a b) (inRange low high v)
           (λ e.
           let h = leb-true a b e in
           ⊎-elim
-          (λ (u : After v a). plain-members low high v (w .0) .1 (u .0, omega (arith, w .2, u .2)))
+          (λ (u : After v a). unwrapped-members low high v (w .0) .1 (u .0, omega (arith, w .2, u .2)))
           (λ (u : Round v a). absurd (omega (arith, w .1, w .2, u .1)))
           (met v a la ea))
           (λ e.
-          let h = plain-members low high v (w .0) .0 e in
+          let h = unwrapped-members low high v (w .0) .0 e in
           ⊎-elim
           (λ (u : After v a). le-leb a b (omega (arith, w .2, u .2, h .1)))
           (λ (u : Round v a). absurd (omega (arith, u .0, h .0)))

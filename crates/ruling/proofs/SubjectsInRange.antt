@@ -22,7 +22,7 @@ use Rattle.ruling.specs.Targets.{inRange, targetHolds}
 use Rattle.ruling.specs.Subjects.{mostSubjects, member, someMember, subjectsFault}
 use Rattle.ruling.specs.Walk.{othersHold}
 use Rattle.ruling.proofs.FieldByField.{target-parts}
-use Rattle.ruling.proofs.InRange.{in-plain, in-wrapped}
+use Rattle.ruling.proofs.InRange.{in-unwrapped, in-wrapped}
 
 -- every place of a word is set
 abbrev all : ℕ
@@ -58,8 +58,8 @@ set-up-to high n e k m =
 
 -- the set of a range, from those of its ends
 module _ (low high a b : ℕ) (from-low : SetOf a (leb low)) (up-to-high : SetOf b (λ k. leb k high)) where
-  pub set-plain : low ≤ high → SetOf (bitAnd a b) (inRange low high)
-  set-plain l k m = bit-and a b k ∙ ap₂ (λ x y. x && y) (from-low k m) (up-to-high k m) ∙ sym (in-plain low high k l)
+  pub set-unwrapped : low ≤ high → SetOf (bitAnd a b) (inRange low high)
+  set-unwrapped l k m = bit-and a b k ∙ ap₂ (λ x y. x && y) (from-low k m) (up-to-high k m) ∙ sym (in-unwrapped low high k l)
 
   pub set-wrapped : high < low → SetOf (bitOr a b) (inRange low high)
   set-wrapped l k m = bit-or a b k ∙ ap₂ (λ x y. x || y) (from-low k m) (up-to-high k m) ∙ sym (in-wrapped low high k l)

@@ -2,7 +2,7 @@
 -- Assumes nothing.
 use native.Mathlib.Omega.{arith}
 use borrow.Author.Needs.{needs}
-use Rattle.ruling.proofs.SubjectsInRange.{set-plain, set-wrapped}
+use Rattle.ruling.proofs.SubjectsInRange.{set-unwrapped, set-wrapped}
 use Rattle.ruling.proofs.targets.subjects_in.Statement.{statement}
 use Rattle.ruling.proofs.targets.subjects_in.Tie as tie
 
@@ -19,7 +19,7 @@ returns-2 c =
     let high = c .before in
     let low = high .before in
     let s = low .before .args in
-    set-plain (s .low) (s .high) (low .subjects-from .result) (high .subjects-up-to .result) (low .subjects-from .ensures) (high .subjects-up-to .ensures)
+    set-unwrapped (s .low) (s .high) (low .subjects-from .result) (high .subjects-up-to .result) (low .subjects-from .ensures) (high .subjects-up-to .ensures)
     (omega (arith, c .if1 .left))
 
 pub subjects-in-spec : {M : Type 1} → statement M
