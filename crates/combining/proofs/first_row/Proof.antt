@@ -1,6 +1,6 @@
 -- `combining::first_row` meets its contract, by whether the group is only one applicable.
 -- Assumes nothing.
-use mathlib.Core.Path.{_≡_, sym, ap, _∙_}
+use mathlib.Core.Path.{sym, ap, _∙_}
 use mathlib.Core.Bool.{cond}
 use Prim.Native.Nat.{_*_}
 use native.Mathlib.Omega.{arith}

@@ -19,7 +19,7 @@ use Rattle.ruling.proofs.NodeByKind.{by-rule, by-group}
 use Rattle.ruling.proofs.MembersLeft.{members-down, members-after, left-each, left-applies, left-same, none-left}
 use Rattle.ruling.proofs.RulingGoesByWhichApply.{ruled-same}
 use Rattle.ruling.proofs.Decisions.{takes}
-use Rattle.ruling.proofs.ChildByChild.{Before, before-first, before-end, before-some, before-within, before-child, before-next, before-skipped}
+use Rattle.ruling.proofs.ChildByChild.{Before, before-first, before-end, before-some, before-within, before-next, before-skipped}
 use Rattle.combining.proofs.Running.start.Reads as start-reads
 use Rattle.combining.proofs.Running.take.Reads as take-reads
 use Rattle.table.proofs.layout.kind_at.Reads as kind-at-reads

@@ -1,10 +1,10 @@
 -- `table::layout::short_span_at` meets its contract: the high byte of a short span is 0.
 -- Assumes nothing.
-use mathlib.Core.Path.{_≡_, sym, ap, _∙_}
+use mathlib.Core.Path.{_≡_, ap}
 use native.Mathlib.Omega.{arith}
 use Prim.Native.Nat.{_+_}
 use borrow.Author.Needs.{needs}
-use Rattle.table.specs.Layout.{byte, word, start, span, recordByte, recordWord}
+use Rattle.table.specs.Layout.{byte, word, start, recordByte, recordWord}
 use Rattle.table.proofs.layout.short_span_at.Statement.{statement}
 use Rattle.table.proofs.layout.short_span_at.Tie as tie
 
