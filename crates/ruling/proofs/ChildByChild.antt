@@ -13,9 +13,9 @@ use Rattle.table.specs.Tree.{endOf}
 use Rattle.table.specs.WellFormed.{WellFormed}
 use Rattle.ruling.specs.Forest.{run}
 use Rattle.ruling.specs.Meaning.{children, decision}
-use Rattle.ruling.specs.Walk.{Node, ChildRun, Gathered}
+use Rattle.ruling.specs.Walk.{ChildRun, Gathered}
 use Rattle.ruling.proofs.Decisions.{over, over-start, over-none, over-more, over-skip}
-use Rattle.ruling.proofs.Steps.{first, rest, gathered-not, gathered-none, gathered-more}
+use Rattle.ruling.proofs.Steps.{rest, gathered-not, gathered-none, gathered-more}
 
 -- What holds before node i, of the children from start up to end of a group of a kind: the way of the running decision r, node i and those after it
 -- is the way of all; the cards of those before it were counted from m to n, and stored in a list that was `old`.
@@ -54,10 +54,6 @@ module _ {a : ℕ → Bool} {t : List ℕ} (w : WellFormed t) where
       before-within = b .ahead .whole .each i (omega arith) l
 
       module _ {s : ℕ} (es : s ≡ span t i) where
-        -- a child that applies is ruled
-        pub before-child : a i ≡ true → Node a t i (i + s) n
-        before-child h = first a t w i end (i + s) n l (omega arith) h (b .ahead)
-
         -- one child further on
         on : {n' : ℕ} {r' : Running} {list' : List ℕ} → Reachable r' → Gathered a t i (i + s) n n' list list' →
             over a t r i end ≡ over a t r' (i + s) end → Before a t kind start end m old (i + s) r' n' list'
