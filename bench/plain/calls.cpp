@@ -1,6 +1,7 @@
 // Reading, ruling, both also by the profile, attaching, and looking up in plain C++.
 #include "plain/plain.hpp"
 
+#include <algorithm>
 #include <cstring>
 
 namespace plain {
@@ -122,7 +123,7 @@ inline kolfsein_answer read_keeping(const uint8_t *table, size_t length) {
         for (size_t field = 0; field < FIELDS; ++field) {
             const uint8_t low = record[5 + 2 * field];
             const uint8_t high = record[6 + 2 * field];
-            if (low > maxima[field] || high > maxima[field]) {
+            if (std::max(low, high) > maxima[field]) {
                 return refused(KOLFSEIN_RANGE, i);
             }
         }

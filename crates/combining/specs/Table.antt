@@ -3,10 +3,10 @@
 use mathlib.Core.Path.{_≡_}
 use mathlib.Core.Bool.{Bool, cond}
 use mathlib.Core.List.{List, []}
-use Prim.Native.Nat.{ℕ, _+_, _*_}
+use Prim.Native.Nat.{ℕ, _+_}
 use lib.Dec.{eqb}
 use lib.ListN.{getD}
-use Rattle.combining.specs.Kinds.{onlyOneApplicableKind}
+use Rattle.combining.specs.Kinds.{firstApplicableKind, onlyOneApplicableKind, permitOverridesKind}
 use Rattle.combining.specs.Ways.{Child, step}
 use Rattle.combining.specs.Running.{soFar, Takes}
 use Rattle.combining.specs.declared.Running.{Running}
@@ -19,7 +19,11 @@ onlyOneRow counted counts = cond counted (cond counts 23 19) (cond counts 15 4)
 -- paper 5, "whose rows from then on are listed one after another": the first of a kind's rows where a child has counted before or not, and the
 -- child taken in counts or not
 abbrev pub firstRow : ℕ → Bool → Bool → ℕ
-firstRow k counted counts = cond (eqb k onlyOneApplicableKind) (onlyOneRow counted counts) (4 * k)
+firstRow k counted counts =
+    cond (eqb k firstApplicableKind) 0
+    (cond (eqb k onlyOneApplicableKind) (onlyOneRow counted counts)
+    (cond (eqb k permitOverridesKind) 8
+    12))
 
 -- "indexed by group kind, running decision": the row of these, and of whether a child has counted before, and whether the child taken in counts
 abbrev pub rowOf : ℕ → ℕ → Bool → Bool → ℕ

@@ -111,16 +111,16 @@ fn only_one_row(counted: bool, counts: bool) -> usize
     }
 }
 
-// The first of a kind's rows, where a child has counted before or not, and this one counts or not: those of another kind than only one
-// applicable start at four times its number.
+// The first of a kind's rows, where a child has counted before or not, and this one counts or not.
 fn first_row(kind: u8, counted: bool, counts: bool) -> usize
     requires { ⌜ kind < 4 ⌝ }
     ensures { λ r. ⌜ (r ≡ firstRow kind counted counts) × (r < 24) ⌝ }
 {
-    if kind == Kind::ONLY_ONE_APPLICABLE {
-        only_one_row(counted, counts)
-    } else {
-        4 * kind as usize
+    match kind {
+        Kind::FIRST_APPLICABLE => 0,
+        Kind::ONLY_ONE_APPLICABLE => only_one_row(counted, counts),
+        Kind::PERMIT_OVERRIDES => 8,
+        _ => 12,
     }
 }
 
