@@ -215,10 +215,11 @@ pub record GivesTable (b e : List ℕ) (n : ℕ) (a : Answer) (t : List ℕ) : T
   pub answer : attached b e n ≡ a
   pub holds : attachedTable b e n ≡ t
 
--- Table t gives n seats that ask together, the set s, that card, or none.
+-- Table t gives n seats that ask together, the set s, that card.
 abbrev pub GivesCard : List ℕ → ℕ → ℕ → Type 0
 GivesCard t s n = GivesRuling t s (0 ∷ 0 ∷ []) 1 (ruled permit 1 n) (1 ∷ [])
 
+-- It gives them none.
 abbrev pub GivesNone : List ℕ → ℕ → ℕ → Type 0
 GivesNone t s n = GivesRuling t s (0 ∷ 0 ∷ []) 1 (ruled notApplicable 0 n) (0 ∷ [])
 
@@ -351,7 +352,7 @@ pub record Cases : Type 0 where
   pub rule-before-headers : GivesTable ruleRoot noScoutAttacks 1 (refused 17 0) (0 ∷ [])
   pub headers-before-levels : GivesTable (tableT 3) (onLevels 8) 1 (refused 18 0) (0 ∷ [])
   pub levels-before-room : GivesTable (emptyRoot 0 0 0 0) (onLevels 8) 1 (refused 19 0) (0 ∷ [])
-  -- paper 7, "seat 4 to seat 1": what was refused 7 is read; the card is for seats 4, 5, 0 and 1, and for no other
+  -- paper 7, "seat 4 to seat 1": a low above its high is read, and the card is for seats 4, 5, 0 and 1, and for no other
   pub seats-read : reading (seats 4 1) ≡ counted 2
   pub seat-4 : GivesCard (seats 4 1) (only 4) 1
   pub seat-5 : GivesCard (seats 4 1) (only 5) 1
