@@ -7,3 +7,4 @@ pub mod FitFaults
 pub mod Copied
 pub mod AttachAnswers
 pub mod AttachedIsFitted
+pub mod Computing

@@ -22,3 +22,4 @@ pub mod EveryRequestReachesATerminal
 pub mod LookUpAnswers
 pub mod WalkedDiagramAnswers
 pub mod Examples
+pub mod Computing

@@ -30,3 +30,4 @@ pub mod NeverIndeterminate
 pub mod AtMost127Cards
 pub mod NoCardIsZero
 pub mod DecisionAsWorded
+pub mod Computing

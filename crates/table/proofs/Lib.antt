@@ -13,3 +13,4 @@ pub mod ParentsAndSpansAgree
 pub mod Maxima
 pub mod RangesReadBack
 pub mod NumbersWritten
+pub mod Computing

@@ -1,0 +1,128 @@
+-- Demand 3 holds, and its cases.
+use mathlib.Core.Path.{_≡_, refl, sym, ap, _∙_}
+use mathlib.Core.Bool.{Bool, true, false}
+use mathlib.Core.Logic.{_↔_}
+use mathlib.Core.List.{List, [], _++_, map}
+use Prim.Native.Nat.{ℕ, _-_, _<_}
+use native.Mathlib.Omega.{arith}
+use borrow.Author.Tests.{leb-false}
+use lib.ListN.{length}
+use Rattle.answer.specs.Answers.{ruled, zeros, padded}
+use Rattle.answer.specs.Rulings.{answerOf}
+use Rattle.answer.proofs.SameRuling.{same-ruling}
+use Rattle.combining.specs.Ways.{notApplicable, Child}
+use Rattle.combining.proofs.Fold.{pick, way-none}
+use Rattle.table.specs.Layout.{maximum, maxima, count, kind}
+use Rattle.table.specs.Reading.{Accepted}
+use Rattle.table.proofs.AcceptedIsWellFormed.{well-formed}
+use Rattle.ruling.specs.Forest.{childrenFrom}
+use Rattle.ruling.specs.Targets.{targetHolds, applies}
+use Rattle.ruling.specs.Subjects.{appliesToSome, size, AskedWithin}
+use Rattle.ruling.specs.Meaning.{gives, childOf, decision, cardsFrom, cards, meaning}
+use Rattle.ruling.specs.Ruling.{groups, groupsTogether}
+use Rattle.ruling.proofs.Throughout.{pass-root}
+use Rattle.ruling.proofs.AppliesByParents.{applies-by-parents}
+use Rattle.ruling.proofs.Cards.{matches-group, cards-none, cards-more}
+use Rattle.ruling.proofs.CardsOfMatchingRules.{each-listed, number-of-cards}
+use Rattle.ruling.proofs.DecisionAsWorded.{decision-as-worded}
+use Rattle.ruling.proofs.DecisionByChildren.{decision-by-children}
+use Rattle.ruling.proofs.Decisions.{gives-not, gives-group}
+use Rattle.diagram.specs.LookedUp.{lookedUp, lookedUpList}
+use Rattle.building.specs.Built.{diagramOf, roomRefusal, built, builtDiagram}
+use Rattle.building.proofs.BuildAnswers.{none-fits, succeeds-exactly, accepted-built, used-part}
+use Rattle.building.proofs.BuiltAnswersAsGroups.{built-answers}
+use Rattle.building.proofs.EqualExactlyWhenTablesAlike.{equal-exactly-when-tables-alike}
+use Rattle.demands.specs.Words.{WithinFields, LongEnough, Rules, Builds, usedPart, RuleAlike}
+use Rattle.demands.specs.Tables.{maximaT, emptyRoot}
+use Rattle.demands.specs.Outcomes.{GivesRuling, GivesDiagram}
+use Rattle.demands.specs.Demand3.{Demand3, EmptyRoot, Demand3Cases}
+use Rattle.demands.proofs.Computing.{cases-compute}
+use Rattle.demands.proofs.Demand2Holds.{question}
+
+-- through the walk's diagram, which the used part is
+module _ (t : List ℕ) (room : ℕ) (b : Builds t room) where
+  pub walked : usedPart t room ≡ diagramOf t
+  walked = used-part t room (b .succeeds)
+
+  after : builtDiagram t room ≡ padded (usedPart t room) room
+  after =
+      let h = succeeds-exactly t room .0 (b .succeeds) in
+      accepted-built t room (h .0) (h .1) .1 ∙ ap (λ d. padded d room) (sym walked)
+
+  pub through : (following q : List ℕ) (n : ℕ) → WithinFields t q → LongEnough (groups t q) n →
+      let d = usedPart t room ++ following in Rules (lookedUp d q n) (lookedUpList d q n) (groups t q) 0 n
+  through following q n w l =
+      let most = succeeds-exactly t room .0 (b .succeeds) .1 .0 in
+      let h = built-answers t following (b .bytes) (b .accepted) most q n (w .0) (w .1) l in
+      record {
+        answer = ap (λ d. lookedUp (d ++ following) q n) walked ∙ h .0;
+        cards = ap (λ d. lookedUpList (d ++ following) q n) walked ∙ h .1;
+      }
+
+equal : (t u : List ℕ) (room other : ℕ) → Builds t room → Builds u other →
+    (usedPart t room ≡ usedPart u other) ↔ ((maxima t ≡ maxima u) × RuleAlike t u)
+equal t u room other b c =
+    let h = equal-exactly-when-tables-alike t u in (
+      λ e.
+          let a = h .0 (sym (walked t room b) ∙ e ∙ walked u other c) in
+          (a .0, λ q w. let g = a .1 q (w .0) (w .1) in (ap (λ r. r .decision) g, ap (λ r. r .cards) g)),
+      λ a.
+          walked t room b
+          ∙ h .1 (a .0, λ q n w. let g = a .1 q (n, w) in same-ruling (groups t q) (groups u q) (g .0) (g .1))
+          ∙ sym (walked u other c),
+    )
+
+succeeds : (t : List ℕ) (room : ℕ) → Accepted t → roomRefusal t room .when ≡ false → built t room .number ≡ 0
+succeeds t room c none = succeeds-exactly t room .1 (c, none-fits t room (none, tt))
+
+pub demand-3 : Demand3
+demand-3 = record {
+  diagram-rules = through;
+  equal-exactly = equal;
+  decision-worded = λ t q c. sym (decision-as-worded t q c 0 (well-formed t c .some) (pass-root t (targetHolds t q)));
+  matches-worded = λ t q i c l. applies-by-parents t q c i l;
+  count-worded = λ t q. number-of-cards (applies t q) t;
+  list-worded = λ t q i l e. each-listed (applies t q) t i l e;
+  build-succeeds = succeeds;
+  used-part-walked = walked;
+  zeros-after = after;
+}
+
+-- an empty root, whichever nodes apply
+module _ (t : List ℕ) (e : EmptyRoot t) (a : ℕ → Bool) where
+  group : kind t 0 < 4
+  group = leb-false 4 (kind t 0) (e .group)
+
+  empty-decision : decision a t 0 ≡ notApplicable
+  unfolding childrenFrom
+  empty-decision =
+      let cs : ℕ → List Child = λ n. map (λ j. childOf a j (decision a t j)) (childrenFrom t 0 1 (n - 1)) in
+      decision-by-children a t (e .accepted) 0 (well-formed t (e .accepted) .some) ∙ ap (λ n. gives a t 0 (cs n)) (e .alone) ∙ by (a 0) refl
+    where
+      by : (b : Bool) → a 0 ≡ b → gives a t 0 [] ≡ notApplicable
+      by true h = gives-group a t 0 [] h group ∙ way-none (kind t 0) group
+      by false h = gives-not a t 0 [] h
+
+  empty-cards : cards a t ≡ []
+  unfolding cardsFrom
+  empty-cards = ap (cardsFrom a t 0) (e .alone) ∙ rw (matches-group a t 0 group) refl
+
+  empty-meaning : meaning a t ≡ record { decision = notApplicable; cards = [] }
+  empty-meaning = same-ruling (meaning a t) (record { decision = notApplicable; cards = [] }) empty-decision empty-cards
+
+empty-rules : (t : List ℕ) → EmptyRoot t → (s : ℕ) (others : List ℕ) → AskedWithin (maximum t) s others →
+    (n : ℕ) → GivesRuling t s others n (ruled notApplicable 0 (size s)) (zeros n)
+empty-rules t e s others asked n =
+    let none : n - 0 ≡ n = omega arith in
+    let m = empty-meaning t e (appliesToSome t s others) in
+    let h = question t s others n (e .accepted) asked (omega (arith, ap (λ r. length (r .cards)) m)) in
+    (h .answer ∙ ap (λ r. answerOf r (size s)) m, h .cards ∙ ap (λ r. padded (r .cards) n) m ∙ ap zeros none)
+
+pub demand-3-cases : Demand3Cases
+unfolding cases-compute
+demand-3-cases = record {
+  t-into-63 = (refl, refl);
+  t-into-64 = (refl, refl);
+  empty-root = empty-rules;
+  empty-root-built = pick 4 _ ((refl, refl), ((refl, refl), ((refl, refl), ((refl, refl), tt))));
+}

@@ -1,0 +1,15 @@
+pub mod Words
+pub mod Tables
+pub mod Outcomes
+pub mod Demand1
+pub mod Demand2
+pub mod Demand3
+pub mod Request1
+pub mod Request2
+pub mod Request3
+pub mod Request4
+pub mod Request5
+pub mod Request6
+pub mod Request7
+pub mod Demands
+pub mod Cases
