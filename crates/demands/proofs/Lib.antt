@@ -1,0 +1,2 @@
+-- Theorems over the definitions of several crates.
+pub mod ProfileAttached

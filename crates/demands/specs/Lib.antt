@@ -1,0 +1,1 @@
+-- No definitions: the theorems speak of those of the crates below.

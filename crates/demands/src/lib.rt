@@ -1,0 +1,1 @@
+// What holds of the calls together: there is no code here, only theorems.
