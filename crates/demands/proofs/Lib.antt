@@ -10,5 +10,6 @@ pub mod Request4Holds
 pub mod Request5Holds
 pub mod Request6Holds
 pub mod Request7Holds
+pub mod ProfileAttached
 pub mod DemandsHold
 pub mod CasesHold

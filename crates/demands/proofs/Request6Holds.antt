@@ -23,6 +23,7 @@ use Rattle.demands.specs.Tables.{onePlace, emptyRoot, onLevels, of127Nod
 use Rattle.demands.specs.Outcomes.{GivesTable}
 use Rattle.demands.specs.Request6.{Request6, Request6Cases}
 use Rattle.demands.proofs.Computing.{tables-compute}
+use Rattle.demands.proofs.ProfileAttached.{attached-standard, attached-mixed}
 
 pub request-6 : Request6
 request-6 = record {
@@ -40,6 +41,8 @@ request-6 = record {
   attached-holds = attaching.attached-holds;
   attached-holds-together = attaching.attached-holds-together;
   attached-fails = attaching.attached-fails;
+  attached-standard = attached-standard;
+  attached-mixed = attached-mixed;
 }
 
 -- 19 goes by the nodes of both tables and the levels of the expansion, so that of the large base only the reading is computed

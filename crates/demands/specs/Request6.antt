@@ -15,6 +15,7 @@ use Rattle.ruling.specs.Forest.{childrenOf}
 use Rattle.ruling.specs.Targets.{targetHolds, applies}
 use Rattle.ruling.specs.Subjects.{mostSubjects, member, appliesToSome}
 use Rattle.ruling.specs.Ruling.{groups, groupsTogether}
+use Rattle.standard.specs.Profile.{holdsRule, Standard, readingStandard}
 use Rattle.attaching.specs.Attached.{attachedBytes, attachRefusals, attached, attachedTable, Attaches}
 use Rattle.attaching.specs.Fitted.{Fitted}
 use Rattle.attaching.specs.Meaning.{meaningWith, groupsWith, groupsTogetherWith}
@@ -61,6 +62,10 @@ pub record Request6 : Type 0 where
       groupsTogether (attachedBytes b e) s others ≡ meaningWith (appliesToSome b s others) (appliesToSome e s others) b e
   pub attached-fails : (b e : List ℕ) → Attaches b e → (q : List ℕ) → targetHolds b q 0 ≡ false →
       groups (attachedBytes b e) q ≡ record { decision = notApplicable; cards = [] }
+  -- of two tables of the convention profile it is one again where the base's root holds no rule, and else "a group holds rules and groups"
+  pub attached-standard : (b e : List ℕ) → Attaches b e → Standard b → Standard e → holdsRule b 0 ≡ false → Standard (attachedBytes b e)
+  pub attached-mixed : (b e : List ℕ) → Attaches b e → Standard b → Standard e → holdsRule b 0 ≡ true →
+      readingStandard (attachedBytes b e) ≡ refused 14 0
 
 pub record Request6Cases : Type 0 where
   -- T with an expansion, byte for byte: in as many bytes as it takes, and in two more, which become 0

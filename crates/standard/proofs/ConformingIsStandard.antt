@@ -43,11 +43,11 @@ module _ (t : List ℕ) (i : ℕ) where
 
 module _ (t : List ℕ) where
   -- what is asked of a node that has a parent
-  asked-by-parent : (j : ℕ) → 0 < j → ruleAsked t j ≡ asksForRules t (parent t j)
+  pub asked-by-parent : (j : ℕ) → 0 < j → ruleAsked t j ≡ asksForRules t (parent t j)
   unfolding ruleAsked
   asked-by-parent j l = ap (λ b. cond b false (asksForRules t (parent t j))) (ne-eqb j 0 (λ z. omega arith))
 
-  root-asked : ruleAsked t 0 ≡ false
+  pub root-asked : ruleAsked t 0 ≡ false
   unfolding ruleAsked
   root-asked = refl
 
