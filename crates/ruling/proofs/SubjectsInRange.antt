@@ -17,10 +17,10 @@ use Rattle.answer.proofs.Tests.{lt-or-ge, and-true, and-false}
 use Rattle.sets.specs.Sets.{bit, Next}
 use Rattle.sets.proofs.WordPlaces.{bit-and, bit-or, bit-zero, bit-none, bit-past, bit-all, bit-shifted, bit-left}
 use Rattle.sets.proofs.NextNumber.{next-within, next-some}
-use Rattle.table.specs.Layout.{low, high}
-use Rattle.ruling.specs.Targets.{inRange, targetHolds}
+use Rattle.table.specs.Ranges.{lowOf, highOf}
+use Rattle.ruling.specs.Targets.{inRange, targetHoldsFrom}
 use Rattle.ruling.specs.Subjects.{mostSubjects, member, someMember, subjectsFault}
-use Rattle.ruling.specs.Walk.{othersHold}
+use Rattle.ruling.specs.Walk.{othersHoldFrom}
 use Rattle.ruling.proofs.FieldByField.{target-parts}
 use Rattle.ruling.proofs.InRange.{in-unwrapped, in-wrapped}
 
@@ -64,30 +64,31 @@ module _ (low high a b : ℕ) (from-low : SetOf a (leb low)) (up-to-high : SetOf
   pub set-wrapped : high < low → SetOf (bitOr a b) (inRange low high)
   set-wrapped l k m = bit-or a b k ∙ ap₂ (λ x y. x || y) (from-low k m) (up-to-high k m) ∙ sym (in-wrapped low high k l)
 
--- the members that are left of a set
-module _ (t others : List ℕ) (i s : ℕ) (b : Bool) (e : b ≡ othersHold t others i) where
+-- the members that are left of a set, by a target that is tested from the word w
+module _ (w : ℕ) (others : List ℕ) (s : ℕ) (b : Bool) (e : b ≡ othersHoldFrom w others) where
+  abbrev in-subjects : ℕ → Bool
+  in-subjects = inRange (lowOf w 0) (highOf w 0)
+
   -- where another value is out of its range
-  pub left-none : b ≡ false → (k : ℕ) → member 0 k ≡ member s k && targetHolds t (k ∷ others) i
+  pub left-none : b ≡ false → (k : ℕ) → member 0 k ≡ member s k && targetHoldsFrom w (k ∷ others)
   left-none n k =
       bit-zero k
       ∙ sym
-      (ap (λ x. member s k && x)
-      (target-parts t others i k ∙ ap (λ x. inRange (low t i 0) (high t i 0) k && x) (sym e ∙ n) ∙ and-false (inRange (low t i 0) (high t i 0) k))
-      ∙ and-false (member s k))
+      (ap (λ x. member s k && x) (target-parts w others k ∙ ap (λ x. in-subjects k && x) (sym e ∙ n) ∙ and-false (in-subjects k)) ∙ and-false (member s k))
 
   -- where the other values lie in their ranges: those in the range of subjects
-  pub left-some : b ≡ true → s < 2 ^ 64 → (r : ℕ) → SetOf r (inRange (low t i 0) (high t i 0)) →
-      (k : ℕ) → member (bitAnd s r) k ≡ member s k && targetHolds t (k ∷ others) i
-  left-some y fits r is k =
+  pub left-some : b ≡ true → s < 2 ^ 64 → (low high r : ℕ) → low ≡ lowOf w 0 → high ≡ highOf w 0 → SetOf r (inRange low high) →
+      (k : ℕ) → member (bitAnd s r) k ≡ member s k && targetHoldsFrom w (k ∷ others)
+  left-some y fits low high r el eh is k =
       bit-and s r k ∙ ⊎-elim within past (lt-or-ge k 64)
       ∙ ap (λ x. member s k && x)
-      (sym (target-parts t others i k ∙ ap (λ x. inRange (low t i 0) (high t i 0) k && x) (sym e ∙ y) ∙ and-true (inRange (low t i 0) (high t i 0) k)))
+      (ap₂ (λ x z. inRange x z k) el eh ∙ sym (target-parts w others k ∙ ap (λ x. in-subjects k && x) (sym e ∙ y) ∙ and-true (in-subjects k)))
     where
-      within : k < 64 → (member s k && member r k) ≡ (member s k && inRange (low t i 0) (high t i 0) k)
+      within : k < 64 → (member s k && member r k) ≡ (member s k && inRange low high k)
       within m = ap (λ x. member s k && x) (is k m)
 
-      past : 64 ≤ k → (member s k && member r k) ≡ (member s k && inRange (low t i 0) (high t i 0) k)
-      past m = ap (λ x. x && member r k) (bit-past s k fits m) ∙ sym (ap (λ x. x && inRange (low t i 0) (high t i 0) k) (bit-past s k fits m))
+      past : 64 ≤ k → (member s k && member r k) ≡ (member s k && inRange low high k)
+      past m = ap (λ x. x && member r k) (bit-past s k fits m) ∙ sym (ap (λ x. x && inRange low high k) (bit-past s k fits m))
 
 -- a set that is not 0 has a member
 pub some-in : (s : ℕ) → s < 2 ^ 64 → 0 < s → someBelow mostSubjects (member s) ≡ true
