@@ -1,7 +1,8 @@
 // Which subjects a target holds for: those in its range of subjects, where every other value lies in its range.
 use answer::OTHERS;
 use sets::WORD;
-use sets::next_at;
+use sets::least_at;
+use sets::without_least;
 use std::num::wrapping_sub_u8;
 use std::num::wrapping_sub_u16;
 use table::layout::high_of;
@@ -105,17 +106,19 @@ pub(crate) fn members_left(table: &[u8], members: u64, others: &[u16; OTHERS], i
     members_from(ranges, members, others)
 }
 
-// Refusal 13: whether a set has no subject, or one over the maximum.
+// Refusal 13: whether a set has no subject, or one over the maximum. The set is walked, from member to next member, until one is over it.
 pub(crate) fn subjects_fault(subjects: u64, maximum: u16) -> bool
     ensures { λ r. ⌜ r ≡ subjectsFault maximum subjects ⌝ }
 {
     if subjects == 0 {
         return true;
     }
-    let after = maximum as usize + 1;
-    if after < WORD {
-        next_at(subjects, after) < WORD
-    } else {
-        false
+    let mut left = subjects;
+    while left != 0 {
+        if (maximum as usize) < least_at(left) {
+            return true;
+        }
+        left = without_least(left);
     }
+    false
 }
