@@ -35,19 +35,20 @@ returns-2 : tie.Need-returns-2 Inv-loop μ-loop
 returns-2 c =
     let least = c .before in
     let l = least .before .before in
-    next-refused (maximum l) (subjects l) (l .loop .left) (fits l) (some l) (l .loop .inv) (least .least-at .result) (least .least-at .ensures .0) (least .least-at .ensures .1)
-    (c .if2 .taken)
+    next-refused (maximum l) (subjects l) (l .loop .left) (fits l) (some l) (l .loop .inv) (least .least-at .result) (least .least-at .ensures .0)
+    (least .least-at .ensures .1) (omega (arith, c .if2 .taken))
 
 loop-again : tie.Need-loop-again Inv-loop μ-loop
 loop-again c =
     let passed = c .before in
     let least = passed .before in
     let l = least .before .before in
-    next-passed (maximum l) (subjects l) (l .loop .left) (fits l) (some l) (l .loop .inv) (least .least-at .result) (c .without-least .result) (passed .if2 .left)
-    (c .without-least .ensures .0 (least .least-at .result) (least .least-at .ensures .0))
+    next-passed (maximum l) (subjects l) (l .loop .left) (fits l) (some l) (l .loop .inv) (least .least-at .result) (c .without-least .result)
+    (omega (arith, passed .if2 .left)) (c .without-least .ensures .0 (least .least-at .result) (least .least-at .ensures .0))
 
 returns-3 : tie.Need-returns-3 Inv-loop μ-loop
-returns-3 c = let l = c .before in all-passed (maximum l) (subjects l) (l .loop .left) (fits l) (some l) (l .loop .inv) (c .loop-test .left)
+returns-3 c =
+    let l = c .before in all-passed (maximum l) (subjects l) (l .loop .left) (fits l) (some l) (l .loop .inv) (omega (arith, c .loop-test .left))
 
 pub subjects-fault-spec : {M : Type 1} → statement M
 subjects-fault-spec =
