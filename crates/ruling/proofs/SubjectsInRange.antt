@@ -104,18 +104,8 @@ unfolding subjectsFault
 empty-refused maximum s e = sym (ap (λ b. not b || someOver maximum s) (some-none (member s) mostSubjects (λ k l. bit-none s k e)))
 
 -- where members of the set s that are not over the maximum were passed, and these are left
-module _ (maximum s left : ℕ) (l : s < 2 ^ 64) (p : 0 < s) (same : someOver maximum left ≡ someOver maximum s) where
-  by-left : (b : Bool) → someOver maximum left ≡ b → b ≡ subjectsFault maximum s
-  unfolding subjectsFault
-  by-left b e = sym (ap (λ x. not x || someOver maximum s) (some-in s l p) ∙ sym same ∙ e)
-
-  -- the next member is over it
-  pub next-refused : (r : ℕ) → Next 64 (bit left) 0 r → r < 64 → maximum < r → true ≡ subjectsFault maximum s
-  next-refused r n m o =
-      by-left true
-      (some-where (λ k. member left k && ltb maximum k) mostSubjects r m (ap₂ (λ a b. a && b) (n .passes m) (lt-ltb maximum r o)))
-
-  -- the next member is passed
+module _ (maximum s left : ℕ) (same : someOver maximum left ≡ someOver maximum s) where
+  -- the next member is not over it, and is passed
   pub next-passed : (r rest : ℕ) → r ≤ maximum → ((k : ℕ) → member rest k ≡ member left k && not (eqb r k)) → someOver maximum rest ≡ someOver maximum s
   next-passed r rest m is =
       some-same (λ k. member rest k && ltb maximum k) (λ k. member left k && ltb maximum k) mostSubjects (λ k _. by k (eqb r k) refl) ∙ same
@@ -126,7 +116,18 @@ module _ (maximum s left : ℕ) (l : s < 2 ^ 64) (p : 0 < s) (same : someOver ma
           ap (λ b. member rest k && b) out ∙ and-false (member rest k) ∙ sym (ap (λ b. member left k && b) out ∙ and-false (member left k))
       by k false e = ap (λ b. b && ltb maximum k) (is k ∙ ap (λ b. member left k && not b) e ∙ and-true (member left k))
 
-  -- all were passed
-  pub all-passed : left ≡ 0 → false ≡ subjectsFault maximum s
-  all-passed e =
-      by-left false (some-none (λ k. member left k && ltb maximum k) mostSubjects (λ k _. ap (λ b. b && ltb maximum k) (bit-none left k e)))
+  module _ (l : s < 2 ^ 64) (p : 0 < s) where
+    by-left : (b : Bool) → someOver maximum left ≡ b → b ≡ subjectsFault maximum s
+    unfolding subjectsFault
+    by-left b e = sym (ap (λ x. not x || someOver maximum s) (some-in s l p) ∙ sym same ∙ e)
+
+    -- the next member is over it
+    pub next-refused : (r : ℕ) → Next 64 (bit left) 0 r → r < 64 → maximum < r → true ≡ subjectsFault maximum s
+    next-refused r n m o =
+        by-left true
+        (some-where (λ k. member left k && ltb maximum k) mostSubjects r m (ap₂ (λ a b. a && b) (n .passes m) (lt-ltb maximum r o)))
+
+    -- all were passed
+    pub all-passed : left ≡ 0 → false ≡ subjectsFault maximum s
+    all-passed e =
+        by-left false (some-none (λ k. member left k && ltb maximum k) mostSubjects (λ k _. ap (λ b. b && ltb maximum k) (bit-none left k e)))

@@ -1,4 +1,4 @@
--- The least place of a word, and the least number of a set, from one up.
+-- The least place of a word and the word without it, and the least place of a word, or number of a set, from one up.
 -- Assumes nothing.
 use mathlib.Core.Path.{_≡_, refl, sym, ap, ap₂, _∙_}
 use mathlib.Core.Bool.{Bool, true, false, not, _&&_, true≢false}
@@ -19,7 +19,7 @@ use Rattle.sets.proofs.WordPlaces.{bit-and, bit-none, bit-past, bit-fir
 use Rattle.sets.proofs.SetNumbers.{has-low, has-high}
 
 -- there is one next number
-pub next-one : (n : ℕ) (p : ℕ → Bool) (i a b : ℕ) → Next n p i a → Next n p i b → a ≡ b
+next-one : (n : ℕ) (p : ℕ → Bool) (i a b : ℕ) → Next n p i a → Next n p i b → a ≡ b
 next-one n p i a b h k =
     ⊎-elim
     (λ (l : a < b). absurd (apart a b l h k))
@@ -52,7 +52,7 @@ but-odd w e (suc j) =
     twice true = refl
     twice false = refl
 
--- place r of a word is set, and none before it
+-- place r of a word is set and none before it, and it is the one place of the word that the word less 1 does not have
 record First (k w r : ℕ) : Type 0 where
   below : r < k
   passes : bit w r ≡ true

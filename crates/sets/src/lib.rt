@@ -53,7 +53,7 @@ pub fn without_least(word: u64) -> u64
 }
 
 // The least place of a word from i up that is set, or 64.
-pub fn next_at(word: u64, i: usize) -> usize
+fn next_at(word: u64, i: usize) -> usize
     requires { ⌜ i < 64 ⌝ }
     ensures { λ r. ⌜ Next 64 (bit word) i r ⌝ }
 {

@@ -14,7 +14,7 @@ Inv-loop subjects maximum left₀ left = someOver maximum left ≡ someOver maxi
 abbrev μ-loop : tie.MeasureT-loop
 μ-loop subjects maximum left₀ left = left
 
--- what the call is given, and the members that are left
+-- what the call is given
 module _ (c : tie.At-loop Inv-loop μ-loop) where
   abbrev subjects : ℕ
   subjects = c .before .before .args .subjects
@@ -35,7 +35,7 @@ returns-2 : tie.Need-returns-2 Inv-loop μ-loop
 returns-2 c =
     let least = c .before in
     let l = least .before .before in
-    next-refused (maximum l) (subjects l) (l .loop .left) (fits l) (some l) (l .loop .inv) (least .least-at .result) (least .least-at .ensures .0)
+    next-refused (maximum l) (subjects l) (l .loop .left) (l .loop .inv) (fits l) (some l) (least .least-at .result) (least .least-at .ensures .0)
     (least .least-at .ensures .1) (omega (arith, c .if2 .taken))
 
 loop-again : tie.Need-loop-again Inv-loop μ-loop
@@ -43,12 +43,12 @@ loop-again c =
     let passed = c .before in
     let least = passed .before in
     let l = least .before .before in
-    next-passed (maximum l) (subjects l) (l .loop .left) (fits l) (some l) (l .loop .inv) (least .least-at .result) (c .without-least .result)
+    next-passed (maximum l) (subjects l) (l .loop .left) (l .loop .inv) (least .least-at .result) (c .without-least .result)
     (omega (arith, passed .if2 .left)) (c .without-least .ensures .0 (least .least-at .result) (least .least-at .ensures .0))
 
 returns-3 : tie.Need-returns-3 Inv-loop μ-loop
 returns-3 c =
-    let l = c .before in all-passed (maximum l) (subjects l) (l .loop .left) (fits l) (some l) (l .loop .inv) (omega (arith, c .loop-test .left))
+    let l = c .before in all-passed (maximum l) (subjects l) (l .loop .left) (l .loop .inv) (fits l) (some l) (omega (arith, c .loop-test .left))
 
 pub subjects-fault-spec : {M : Type 1} → statement M
 subjects-fault-spec =
