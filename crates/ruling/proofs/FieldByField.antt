@@ -1,4 +1,4 @@
--- Laws of a target whose fields after the first are tested one by one, one for each way through the code.
+-- Laws of a target, tested from a word of ranges, whose fields after the first are tested one by one, one for each way through the code.
 -- Assumes nothing.
 use mathlib.Core.Path.{_≡_, sym, ap, ap₂, _∙_}
 use mathlib.Core.Bool.{Bool, true, false, _&&_}
@@ -9,17 +9,16 @@ use Rattle.answer.specs.Fields.{fields}
 use Rattle.answer.specs.Requests.{value}
 use Rattle.answer.specs.Below.{everyBelow}
 use Rattle.answer.proofs.Below.{every-more, every-false, every-first}
-use Rattle.table.specs.Layout.{low, high}
 use Rattle.table.specs.Ranges.{lowOf, highOf}
-use Rattle.ruling.specs.Targets.{inRange, fieldHolds, targetHolds, fieldHoldsFrom}
-use Rattle.ruling.specs.Walk.{othersHold, othersHoldFrom}
-
--- a target holds for a subject in its range of subjects, where the other values lie in their ranges
-pub target-parts : (t others : List ℕ) (i k : ℕ) → targetHolds t (k ∷ others) i ≡ inRange (low t i 0) (high t i 0) k && othersHold t others i
-unfolding targetHolds othersHold
-target-parts t others i k = every-first (fieldHolds t (k ∷ others) i) (fields - 1)
+use Rattle.ruling.specs.Targets.{inRange, fieldHoldsFrom, targetHoldsFrom}
+use Rattle.ruling.specs.Walk.{othersHoldFrom}
 
 module _ (w : ℕ) (others : List ℕ) where
+  -- a target holds for a subject in its range of subjects, where the other values lie in their ranges
+  pub target-parts : (k : ℕ) → targetHoldsFrom w (k ∷ others) ≡ inRange (lowOf w 0) (highOf w 0) k && othersHoldFrom w others
+  unfolding targetHoldsFrom othersHoldFrom
+  target-parts k = every-first (fieldHoldsFrom w (k ∷ others)) (fields - 1)
+
   -- the value of a field after the first lies in its range of the word
   abbrev pub otherHolds : ℕ → Bool
   otherHolds f = fieldHoldsFrom w (0 ∷ others) (suc f)

@@ -1,26 +1,25 @@
 -- Laws of the subjects in a range as a set, of those of a set that a target holds for, and of a set that is empty or has one over the maximum.
 -- Assumes nothing.
-use mathlib.Core.Path.{_≡_, sym, ap, ap₂, _∙_}
+use mathlib.Core.Path.{_≡_, refl, sym, ap, ap₂, _∙_}
 use mathlib.Core.Bool.{Bool, true, false, not, _&&_, _||_}
 use mathlib.Core.Logic.{⊎-elim}
 use mathlib.Core.List.{List, _∷_}
 use Prim.Native.Nat.{ℕ, _+_, _-_, _*_, _/_, _%_, _^_, _≤_, _<_}
-use native.Mathlib.Nat.{div-one}
 use native.Mathlib.Omega.{arith}
-use borrow.Author.Tests.{lt-leb, le-leb, lt-ltb, le-ltb}
+use borrow.Author.Tests.{lt-leb, le-leb, lt-ltb, le-ltb, eqb-true}
 use lib.Bits.{bitAnd, bitOr}
 use lib.Count.{trailingZeros}
-use lib.Dec.{leb, ltb}
+use lib.Dec.{eqb, leb, ltb}
 use Rattle.answer.specs.Below.{someBelow}
-use Rattle.answer.proofs.Below.{some-where, some-none}
+use Rattle.answer.proofs.Below.{some-where, some-none, some-same}
 use Rattle.answer.proofs.Tests.{lt-or-ge, and-true, and-false}
 use Rattle.sets.specs.Sets.{bit, Next}
 use Rattle.sets.proofs.WordPlaces.{bit-and, bit-or, bit-zero, bit-none, bit-past, bit-all, bit-shifted, bit-left}
-use Rattle.sets.proofs.NextNumber.{next-within, next-some}
-use Rattle.table.specs.Layout.{low, high}
-use Rattle.ruling.specs.Targets.{inRange, targetHolds}
+use Rattle.sets.proofs.NextNumber.{least-within, least-next}
+use Rattle.table.specs.Ranges.{lowOf, highOf}
+use Rattle.ruling.specs.Targets.{inRange, targetHoldsFrom}
 use Rattle.ruling.specs.Subjects.{mostSubjects, member, someMember, subjectsFault}
-use Rattle.ruling.specs.Walk.{othersHold}
+use Rattle.ruling.specs.Walk.{othersHoldFrom}
 use Rattle.ruling.proofs.FieldByField.{target-parts}
 use Rattle.ruling.proofs.InRange.{in-unwrapped, in-wrapped}
 
@@ -64,74 +63,71 @@ module _ (low high a b : ℕ) (from-low : SetOf a (leb low)) (up-to-high : SetOf
   pub set-wrapped : high < low → SetOf (bitOr a b) (inRange low high)
   set-wrapped l k m = bit-or a b k ∙ ap₂ (λ x y. x || y) (from-low k m) (up-to-high k m) ∙ sym (in-wrapped low high k l)
 
--- the members that are left of a set
-module _ (t others : List ℕ) (i s : ℕ) (b : Bool) (e : b ≡ othersHold t others i) where
+-- the members that are left of a set, by a target that is tested from the word w
+module _ (w : ℕ) (others : List ℕ) (s : ℕ) (b : Bool) (e : b ≡ othersHoldFrom w others) where
+  abbrev in-subjects : ℕ → Bool
+  in-subjects = inRange (lowOf w 0) (highOf w 0)
+
   -- where another value is out of its range
-  pub left-none : b ≡ false → (k : ℕ) → member 0 k ≡ member s k && targetHolds t (k ∷ others) i
+  pub left-none : b ≡ false → (k : ℕ) → member 0 k ≡ member s k && targetHoldsFrom w (k ∷ others)
   left-none n k =
       bit-zero k
       ∙ sym
-      (ap (λ x. member s k && x)
-      (target-parts t others i k ∙ ap (λ x. inRange (low t i 0) (high t i 0) k && x) (sym e ∙ n) ∙ and-false (inRange (low t i 0) (high t i 0) k))
-      ∙ and-false (member s k))
+      (ap (λ x. member s k && x) (target-parts w others k ∙ ap (λ x. in-subjects k && x) (sym e ∙ n) ∙ and-false (in-subjects k)) ∙ and-false (member s k))
 
   -- where the other values lie in their ranges: those in the range of subjects
-  pub left-some : b ≡ true → s < 2 ^ 64 → (r : ℕ) → SetOf r (inRange (low t i 0) (high t i 0)) →
-      (k : ℕ) → member (bitAnd s r) k ≡ member s k && targetHolds t (k ∷ others) i
-  left-some y fits r is k =
+  pub left-some : b ≡ true → s < 2 ^ 64 → (low high r : ℕ) → low ≡ lowOf w 0 → high ≡ highOf w 0 → SetOf r (inRange low high) →
+      (k : ℕ) → member (bitAnd s r) k ≡ member s k && targetHoldsFrom w (k ∷ others)
+  left-some y fits low high r el eh is k =
       bit-and s r k ∙ ⊎-elim within past (lt-or-ge k 64)
       ∙ ap (λ x. member s k && x)
-      (sym (target-parts t others i k ∙ ap (λ x. inRange (low t i 0) (high t i 0) k && x) (sym e ∙ y) ∙ and-true (inRange (low t i 0) (high t i 0) k)))
+      (ap₂ (λ x z. inRange x z k) el eh ∙ sym (target-parts w others k ∙ ap (λ x. in-subjects k && x) (sym e ∙ y) ∙ and-true (in-subjects k)))
     where
-      within : k < 64 → (member s k && member r k) ≡ (member s k && inRange (low t i 0) (high t i 0) k)
+      within : k < 64 → (member s k && member r k) ≡ (member s k && inRange low high k)
       within m = ap (λ x. member s k && x) (is k m)
 
-      past : 64 ≤ k → (member s k && member r k) ≡ (member s k && inRange (low t i 0) (high t i 0) k)
-      past m = ap (λ x. x && member r k) (bit-past s k fits m) ∙ sym (ap (λ x. x && inRange (low t i 0) (high t i 0) k) (bit-past s k fits m))
+      past : 64 ≤ k → (member s k && member r k) ≡ (member s k && inRange low high k)
+      past m = ap (λ x. x && member r k) (bit-past s k fits m) ∙ sym (ap (λ x. x && inRange low high k) (bit-past s k fits m))
 
 -- a set that is not 0 has a member
 pub some-in : (s : ℕ) → s < 2 ^ 64 → 0 < s → someBelow mostSubjects (member s) ≡ true
-some-in s l p =
-    let z : s / 2 ^ 0 ≡ s = div-one s in
-    let some : 0 < s / 2 ^ 0 = rw z p in
-    let r = 0 + trailingZeros 64 (s / 2 ^ 0) in
-    some-where (member s) mostSubjects r (next-within s 0 l some) (next-some s 0 l some .passes (next-within s 0 l some))
+some-in s l p = let w = least-within s l p in some-where (member s) mostSubjects (trailingZeros 64 s) w (least-next s l p .passes w)
 
 -- 13, by each way through the code
 
-module _ (maximum s : ℕ) where
-  pub empty-refused : s ≡ 0 → true ≡ subjectsFault maximum s
-  unfolding subjectsFault
-  empty-refused e =
-      sym (ap (λ b. not b || someMember s (λ k. ltb maximum k)) (some-none (member s) mostSubjects (λ k l. bit-none s k e)))
+-- some member of a set is over the maximum
+abbrev pub someOver : ℕ → ℕ → Bool
+someOver maximum s = someMember s (λ k. ltb maximum k)
+
+pub empty-refused : (maximum s : ℕ) → s ≡ 0 → true ≡ subjectsFault maximum s
+unfolding subjectsFault
+empty-refused maximum s e = sym (ap (λ b. not b || someOver maximum s) (some-none (member s) mostSubjects (λ k l. bit-none s k e)))
+
+-- where members of the set s that are not over the maximum were passed, and these are left
+module _ (maximum s left : ℕ) (same : someOver maximum left ≡ someOver maximum s) where
+  -- the next member is not over it, and is passed
+  pub next-passed : (r rest : ℕ) → r ≤ maximum → ((k : ℕ) → member rest k ≡ member left k && not (eqb r k)) → someOver maximum rest ≡ someOver maximum s
+  next-passed r rest m is =
+      some-same (λ k. member rest k && ltb maximum k) (λ k. member left k && ltb maximum k) mostSubjects (λ k _. by k (eqb r k) refl) ∙ same
+    where
+      by : (k : ℕ) (b : Bool) → eqb r k ≡ b → (member rest k && ltb maximum k) ≡ (member left k && ltb maximum k)
+      by k true e =
+          let out : ltb maximum k ≡ false = le-ltb maximum k (omega (arith, eqb-true r k e)) in
+          ap (λ b. member rest k && b) out ∙ and-false (member rest k) ∙ sym (ap (λ b. member left k && b) out ∙ and-false (member left k))
+      by k false e = ap (λ b. b && ltb maximum k) (is k ∙ ap (λ b. member left k && not b) e ∙ and-true (member left k))
 
   module _ (l : s < 2 ^ 64) (p : 0 < s) where
-    by-members : (b : Bool) → someMember s (λ k. ltb maximum k) ≡ b → b ≡ subjectsFault maximum s
+    by-left : (b : Bool) → someOver maximum left ≡ b → b ≡ subjectsFault maximum s
     unfolding subjectsFault
-    by-members b e = sym (ap (λ x. not x || someMember s (λ k. ltb maximum k)) (some-in s l p) ∙ e)
+    by-left b e = sym (ap (λ x. not x || someOver maximum s) (some-in s l p) ∙ sym same ∙ e)
 
-    -- the next member after the maximum
-    pub next-decides : (i r : ℕ) → i ≡ maximum + 1 → Next 64 (bit s) i r → ltb r 64 ≡ subjectsFault maximum s
-    next-decides i r e n =
-        ⊎-elim
-        (λ (m : r < 64).
-        lt-ltb r 64 m
-        ∙ by-members true
-        (some-where (λ k. member s k && ltb maximum k) mostSubjects r m (ap₂ (λ a b. a && b) (n .passes m) (lt-ltb maximum r (omega (arith, n .from))))))
-        (λ (m : 64 ≤ r).
-        le-ltb r 64 m
-        ∙ by-members false
-        (some-none (λ k. member s k && ltb maximum k) mostSubjects
-        (λ k lk.
-        ⊎-elim
-        (λ (o : maximum < k). ap (λ b. b && ltb maximum k) (n .between k (omega arith) (omega arith)))
-        (λ (o : k ≤ maximum). ap (λ b. member s k && b) (le-ltb maximum k o) ∙ and-false (member s k))
-        (lt-or-ge maximum k))))
-        (lt-or-ge r 64)
+    -- the next member is over it
+    pub next-refused : (r : ℕ) → Next 64 (bit left) 0 r → r < 64 → maximum < r → true ≡ subjectsFault maximum s
+    next-refused r n m o =
+        by-left true
+        (some-where (λ k. member left k && ltb maximum k) mostSubjects r m (ap₂ (λ a b. a && b) (n .passes m) (lt-ltb maximum r o)))
 
-    -- no member can be over the maximum
-    pub none-over : 63 ≤ maximum → false ≡ subjectsFault maximum s
-    none-over m =
-        by-members false
-        (some-none (λ k. member s k && ltb maximum k) mostSubjects
-        (λ k lk. ap (λ b. member s k && b) (le-ltb maximum k (omega arith)) ∙ and-false (member s k)))
+    -- all were passed
+    pub all-passed : left ≡ 0 → false ≡ subjectsFault maximum s
+    all-passed e =
+        by-left false (some-none (λ k. member left k && ltb maximum k) mostSubjects (λ k _. ap (λ b. b && ltb maximum k) (bit-none left k e)))

@@ -1,16 +1,14 @@
 -- Paper 4, "the test from it passes exactly when the target holds": from a word that a node's ranges can be read back from.
 -- Assumes nothing.
 use mathlib.Core.Path.{_≡_, refl, ap₂, _∙_}
-use mathlib.Core.List.{List, _∷_}
-use Prim.Native.Nat.{ℕ, suc, _-_, _<_}
-use native.Mathlib.Omega.{arith}
+use mathlib.Core.List.{List}
+use Prim.Native.Nat.{ℕ, _<_}
 use Rattle.answer.specs.Fields.{fields}
 use Rattle.answer.specs.Requests.{value}
 use Rattle.answer.proofs.Below.{every-same}
 use Rattle.table.specs.Layout.{low, high}
 use Rattle.table.specs.Ranges.{lowOf, highOf, ReadsBack}
 use Rattle.ruling.specs.Targets.{inRange, fieldHolds, targetHolds, fieldHoldsFrom, targetHoldsFrom}
-use Rattle.ruling.specs.Walk.{othersHold, othersHoldFrom}
 
 module _ (t : List ℕ) (i w : ℕ) (back : ReadsBack w t i) where
   -- a range whose ends are read back is the node's
@@ -23,10 +21,3 @@ module _ (t : List ℕ) (i w : ℕ) (back : ReadsBack w t i) where
   pub target-from : (q : List ℕ) → targetHoldsFrom w q ≡ targetHolds t q i
   unfolding targetHoldsFrom targetHolds
   target-from q = every-same (fieldHoldsFrom w q) (fieldHolds t q i) fields (field-from q)
-
-  -- the same of the fields after the first
-  pub others-from : (others : List ℕ) → othersHoldFrom w others ≡ othersHold t others i
-  unfolding othersHoldFrom othersHold
-  others-from others =
-      let q : List ℕ = 0 ∷ others in
-      every-same (λ f. fieldHoldsFrom w q (suc f)) (λ f. fieldHolds t q i (suc f)) (fields - 1) (λ f m. field-from q (suc f) (omega arith))

@@ -10,15 +10,11 @@ use Rattle.answer.specs.Below.{everyBelow}
 use Rattle.answer.specs.Fields.{fields}
 use Rattle.table.specs.Layout.{count}
 use Rattle.table.specs.Tree.{endOf}
-use Rattle.ruling.specs.Targets.{fieldHolds, targetHolds, fieldHoldsFrom, applies}
+use Rattle.ruling.specs.Targets.{targetHolds, fieldHoldsFrom, applies}
 use Rattle.ruling.specs.Subjects.{member}
 use Rattle.ruling.specs.Meaning.{cardsFrom}
 
--- the values of all fields but the first, the subject, lie in node i's ranges
-unfoldable pub othersHold : List ℕ → List ℕ → ℕ → Bool
-othersHold t others i = everyBelow (fields - 1) (λ f. fieldHolds t (0 ∷ others) i (suc f))
-
--- the same from the word w of a node's ranges
+-- the values of all fields but the first, the subject, lie in the ranges of the word w
 unfoldable pub othersHoldFrom : ℕ → List ℕ → Bool
 othersHoldFrom w others = everyBelow (fields - 1) (λ f. fieldHoldsFrom w (0 ∷ others) (suc f))
 

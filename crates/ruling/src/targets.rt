@@ -1,7 +1,8 @@
 // Which subjects a target holds for: those in its range of subjects, where every other value lies in its range.
 use answer::OTHERS;
 use sets::WORD;
-use sets::next_at;
+use sets::least_at;
+use sets::without_least;
 use std::num::wrapping_sub_u8;
 use std::num::wrapping_sub_u16;
 use table::layout::high_of;
@@ -12,10 +13,10 @@ ghost use mathlib.Core.Bool.{_&&_};
 ghost use mathlib.Core.List.{_∷_};
 ghost use Prim.Native.Nat.{ℕ, _<_};
 ghost use lib.Dec.{leb};
-ghost use Rattle.table.specs.Layout.{low, high, NodeHeld};
-ghost use Rattle.ruling.specs.Targets.{inRange, targetHolds};
+ghost use Rattle.table.specs.Layout.{NodeHeld};
+ghost use Rattle.ruling.specs.Targets.{inRange, targetHolds, targetHoldsFrom};
 ghost use Rattle.ruling.specs.Subjects.{mostSubjects, member, subjectsFault};
-ghost use Rattle.ruling.specs.Walk.{othersHold, othersHoldFrom};
+ghost use Rattle.ruling.specs.Walk.{othersHoldFrom};
 
 // All subjects that a set can have.
 const ALL: u64 = 18446744073709551615;
@@ -70,15 +71,6 @@ pub(crate) fn subjects_in(low: u8, high: u8) -> u64
     }
 }
 
-// The subjects in node i's range of subjects, as a set.
-fn subjects_at(table: &[u8], i: usize) -> u64
-    requires { ⌜ NodeHeld (now table) i ⌝ }
-    ensures { λ r. ⌜ ((k : ℕ) → k < mostSubjects → member r k ≡ inRange (low (now (table .entry)) i 0) (high (now (table .entry)) i 0) k) ⌝ }
-{
-    let ranges = ranges_at(table, i);
-    subjects_in(low_of(ranges, 0), high_of(ranges, 0))
-}
-
 // Whether the values of all fields but the subject lie in their ranges, from the word of a node's ranges.
 fn others_hold_from(ranges: u64, others: &[u16; OTHERS]) -> bool
     ensures { λ r. ⌜ r ≡ othersHoldFrom ranges (now (others .entry)) ⌝ }
@@ -95,36 +87,38 @@ fn others_hold_from(ranges: u64, others: &[u16; OTHERS]) -> bool
     true
 }
 
-// Whether the values of all fields but the subject lie in node i's ranges.
-pub(crate) fn others_hold(table: &[u8], others: &[u16; OTHERS], i: usize) -> bool
-    requires { ⌜ NodeHeld (now table) i ⌝ }
-    ensures { λ r. ⌜ r ≡ othersHold (now (table .entry)) (now (others .entry)) i ⌝ }
+// The members of a set for which the target holds that is tested from a word of ranges, where the other fields have these values.
+fn members_from(ranges: u64, members: u64, others: &[u16; OTHERS]) -> u64
+    ensures { λ r. ⌜ ((k : ℕ) → member r k ≡ member members k && targetHoldsFrom ranges (k ∷ now (others .entry))) ⌝ }
 {
-    others_hold_from(ranges_at(table, i), others)
+    if !others_hold_from(ranges, others) {
+        return 0;
+    }
+    members & subjects_in(low_of(ranges, 0), high_of(ranges, 0))
 }
 
-// The members of a set for which node i's target holds, where the other fields have these values.
+// The members of a set for which node i's target holds, where the other fields have these values: its ranges are gathered once.
 pub(crate) fn members_left(table: &[u8], members: u64, others: &[u16; OTHERS], i: usize) -> u64
     requires { ⌜ NodeHeld (now table) i ⌝ }
     ensures { λ r. ⌜ ((k : ℕ) → member r k ≡ member members k && targetHolds (now (table .entry)) (k ∷ now (others .entry)) i) ⌝ }
 {
-    if !others_hold(table, others, i) {
-        return 0;
-    }
-    members & subjects_at(table, i)
+    let ranges = ranges_at(table, i);
+    members_from(ranges, members, others)
 }
 
-// Refusal 13: whether a set has no subject, or one over the maximum.
+// Refusal 13: whether a set has no subject, or one over the maximum. The set is walked, from member to next member, until one is over it.
 pub(crate) fn subjects_fault(subjects: u64, maximum: u16) -> bool
     ensures { λ r. ⌜ r ≡ subjectsFault maximum subjects ⌝ }
 {
     if subjects == 0 {
         return true;
     }
-    let after = maximum as usize + 1;
-    if after < WORD {
-        next_at(subjects, after) < WORD
-    } else {
-        false
+    let mut left = subjects;
+    while left != 0 {
+        if (maximum as usize) < least_at(left) {
+            return true;
+        }
+        left = without_least(left);
     }
+    false
 }

@@ -35,17 +35,30 @@ pub fn ones_at(word: u64) -> usize
     u64::count_ones(word) as usize
 }
 
+// The least place of a word that is set.
+pub fn least_at(word: u64) -> usize
+    requires { ⌜ 0 < word ⌝ }
+    ensures { λ r. ⌜ Next 64 (bit word) 0 r × (r < 64) ⌝ }
+{
+    u64::trailing_zeros(word) as usize
+}
+
+// The word with all its places but the least.
+pub fn without_least(word: u64) -> u64
+    requires { ⌜ 0 < word ⌝ }
+    ensures { λ r. ⌜ ((i : ℕ) → Next 64 (bit word) 0 i → (j : ℕ) → bit r j ≡ bit word j && not (eqb i j)) ⌝ }
+    ensures { λ r. ⌜ r < word ⌝ }
+{
+    word & (word - 1)
+}
+
 // The least place of a word from i up that is set, or 64.
-pub fn next_at(word: u64, i: usize) -> usize
+fn next_at(word: u64, i: usize) -> usize
     requires { ⌜ i < 64 ⌝ }
     ensures { λ r. ⌜ Next 64 (bit word) i r ⌝ }
 {
     let rest = word >> i;
-    if rest == 0 {
-        WORD
-    } else {
-        i + u64::trailing_zeros(rest) as usize
-    }
+    if rest == 0 { WORD } else { i + least_at(rest) }
 }
 
 // The low word has the numbers below 64, the high word those from 64 on.

@@ -1,35 +1,20 @@
--- `ruling::targets::members_left` meets its contract: those in the range of subjects are left, where the other values lie in their ranges.
+-- `ruling::targets::members_left` meets its contract: the test from the word passes exactly where node i's target holds.
 -- Assumes nothing.
-use mathlib.Core.List.{List}
-use Prim.Native.Nat.{ℕ}
-use native.Mathlib.Omega.{arith}
+use mathlib.Core.Bool.{_&&_}
+use mathlib.Core.List.{_∷_}
+use mathlib.Core.Path.{ap, _∙_}
 use borrow.Author.Needs.{needs}
-use borrow.Author.Tests.{not-true, not-false}
-use Rattle.ruling.proofs.SubjectsInRange.{left-none, left-some}
+use Rattle.ruling.specs.Subjects.{member}
+use Rattle.ruling.proofs.TargetFromWord.{target-from}
 use Rattle.ruling.proofs.targets.members_left.Statement.{statement}
 use Rattle.ruling.proofs.targets.members_left.Tie as tie
 
--- what the call is given, once the other fields are tested
-module _ (c : tie.After-others-hold) where
-  abbrev start : tie.Start
-  start = c .before .before
-
-  abbrev table : List ℕ
-  table = start .args .table .now
-
-  abbrev others : List ℕ
-  others = start .args .others .now
-
 returns : tie.Need-returns
-returns c =
-    let h = c .before in
-    left-none (table h) (others h) (start h .args .i) (start h .args .members) (h .others-hold .result) (h .others-hold .ensures) (not-true _ (c .if1 .taken))
-
-returns-2 : tie.Need-returns-2
-returns-2 c =
-    let h = c .before .before in
-    left-some (table h) (others h) (start h .args .i) (start h .args .members) (h .others-hold .result) (h .others-hold .ensures)
-    (not-false _ (c .before .if1 .left)) (omega arith) (c .subjects-at .result) (c .subjects-at .ensures)
+returns c k =
+    let word = c .before in
+    let s = word .before .before .args in
+    c .members-from .ensures k
+    ∙ ap (λ b. member (s .members) k && b) (target-from (s .table .now) (s .i) (word .ranges-at .result) (word .ranges-at .ensures .1) (k ∷ s .others .now))
 
 pub members-left-spec : {M : Type 1} → statement M
-members-left-spec = tie.close (tie.spec (λ c κs. search needs) returns (λ c κs. search needs) returns-2)
+members-left-spec = tie.close (tie.spec (λ c κs. search needs) (λ c κs. search needs) returns)
