@@ -28,10 +28,11 @@ use Rattle.sets.specs.Sets.{bit}
 use Rattle.diagram.specs.Entries.{terminal, node}
 use Rattle.diagram.specs.Decided.{le?, lt?, eq?, iff?, not?, and?, or?, when?, one-more?, each?}
 use Rattle.diagram.specs.SoundIsDecided.{scan?, start?, entry-before?, terminal-holds?, sound-terminal?, sound-node?, sound-entry?, sound?}
+use Rattle.diagram.specs.OneRuling.{oneEdgeEach, oneRuling}
 use Rattle.diagram.specs.LookUp.{edge, lookUp}
 use Rattle.diagram.specs.Walk.{enter, extend, below, walk, diagram}
 use Rattle.diagram.proofs.DiagramGoesByRulingsWithin.{diagram-goes-by-rulings-within}
-use Rattle.diagram.proofs.OneRulingForAll.{none-everywhere}
+use Rattle.diagram.proofs.OneRulingForAll.{one-ruling-for-all}
 use Rattle.building.specs.Built.{diagramOf}
 use Rattle.building.proofs.BuildAnswers.{accepted-built}
 use Rattle.kolfsein.specs.Cases.{tableT, overOnlyOne, emptyRoot, emptyDiagram, permitFirst, denyFirst, ruleFor1InGroupFor0, silentBesidePermit, oneSilent, twoSilent, emptyBesidePermit, ruleRoot, twoFaults, groupsOfRules, noScoutAttacks, attachedT, nested, onLevels, branching, of127Nodes, seats, seatsApart, GivesRuling, GivesDiagram, Cases}
@@ -90,12 +91,13 @@ module _ (kind subject resource action : ℕ) (few : kind < 4) where
   empty-maxima = refl
 
   empty-diagram : diagramOf (emptyRoot kind subject resource action) ≡ emptyDiagram subject resource action
+  unfolding oneEdgeEach oneRuling terminal node
   empty-diagram =
       let t = emptyRoot kind subject resource action in
       ap (λ ms. diagram ms (groups t)) empty-maxima
       ∙ diagram-goes-by-rulings-within (subject ∷ resource ∷ action ∷ []) (groups t) (λ q. record { decision = notApplicable; cards = [] })
       (λ q w. empty-meaning (applies t q))
-      ∙ none-everywhere subject resource action
+      ∙ one-ruling-for-all (subject ∷ resource ∷ action ∷ []) (record { decision = notApplicable; cards = [] })
 
   empty-builds : (n : ℕ) → 20 ≤ n → GivesDiagram (emptyRoot kind subject resource action) n (counted 20) (padded (emptyDiagram subject resource action) n)
   empty-builds n l =
