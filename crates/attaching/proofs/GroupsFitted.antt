@@ -17,6 +17,7 @@ use Rattle.combining.specs.Ways.{notApplicable}
 use Rattle.table.specs.Layout.{count}
 use Rattle.table.specs.Tree.{endOf}
 use Rattle.table.specs.Reading.{Accepted}
+use Rattle.table.specs.SameNode.{SameNode}
 use Rattle.table.specs.WellFormed.{WellFormed}
 use Rattle.table.proofs.AcceptedIsWellFormed.{well-formed}
 use Rattle.ruling.specs.Forest.{under, childrenOf}
@@ -30,7 +31,7 @@ use Rattle.ruling.proofs.NodesAlike.{Agree, gives-same, decision-same, cards-sa
 use Rattle.ruling.proofs.ChildrenByParents.{EachOf, children-each}
 use Rattle.ruling.proofs.DecisionByChildren.{children-decide}
 use Rattle.ruling.proofs.Applies.{applies-where, applies-each, applies-under}
-use Rattle.attaching.specs.Fitted.{SameNode, Fitted}
+use Rattle.attaching.specs.Fitted.{Fitted}
 use Rattle.attaching.specs.Meaning.{meaningWith, appliesUnder, appliesToSomeUnder, groupsWith, groupsTogetherWith}
 use Rattle.attaching.proofs.Trees.{root-end, base-inside, base-reaches, base-reached, expansion-end, last-child}
 

@@ -12,7 +12,7 @@ use Rattle.answer.specs.Refusals.{upward, settled}
 use Rattle.answer.specs.Rulings.{answerOf}
 use Rattle.answer.specs.Below.{someBelow, countBelow}
 use Rattle.combining.specs.Ways.{notApplicable}
-use Rattle.table.specs.Layout.{word, maximum, valuesFrom, maxima, count, header, recordSize, start, recordByte, recordWord}
+use Rattle.table.specs.Layout.{word, maximum, valuesFrom, maxima, countPlace, count, header, recordSize, start, recordByte, recordWord}
 use Rattle.table.specs.Tree.{parent, level, hasLevel}
 use Rattle.table.specs.Reading.{lengthFault, versionFault, countFault, kindFault, spanFault, levelFault, rangeFault, rangesFault, cardFault, tableRefusals, Accepted}
 use Rattle.table.specs.Writing.{withWord}
@@ -43,7 +43,7 @@ either false n = refl
 
 module _ (kind subject resource action : ℕ) (few : kind < 4) where
   empty-accepted : Accepted (emptyRoot kind subject resource action)
-  unfolding emptyRoot word maximum count header recordSize start recordByte recordWord parent level lengthFault versionFault countFault kindFault spanFault levelFault rangeFault rangesFault cardFault upward tableRefusals someBelow
+  unfolding emptyRoot word maximum countPlace count header recordSize start recordByte recordWord parent level lengthFault versionFault countFault kindFault spanFault levelFault rangeFault rangesFault cardFault upward tableRefusals someBelow
   empty-accepted =
       simp (
         le-ltb 5 kind (omega arith),
@@ -59,11 +59,11 @@ module _ (kind subject resource action : ℕ) (few : kind < 4) where
 
   -- whichever nodes apply
   empty-decision : (a : ℕ → Bool) → meaning a (emptyRoot kind subject resource action) .decision ≡ notApplicable
-  unfolding emptyRoot word count header recordSize start recordByte recordWord forestWithin gives
+  unfolding emptyRoot word countPlace count header recordSize start recordByte recordWord forestWithin gives
   empty-decision a = simp (le-ltb 3 kind (omega arith), either)
 
   empty-cards : (a : ℕ → Bool) → meaning a (emptyRoot kind subject resource action) .cards ≡ []
-  unfolding emptyRoot word count header recordSize start recordByte cardsFrom
+  unfolding emptyRoot word countPlace count header recordSize start recordByte cardsFrom
   empty-cards a = simp (le-ltb 3 kind (omega arith))
 
   empty-meaning : (a : ℕ → Bool) → meaning a (emptyRoot kind subject resource action) ≡ record { decision = notApplicable; cards = [] }
@@ -110,7 +110,7 @@ module _ (kind subject resource action : ℕ) (few : kind < 4) where
       }
 
 pub cases-hold : Cases
-unfolding noScoutAttacks attachedT nested onLevels branching of127Nodes seats seatsApart withWord attachedBytes headersDiffer tooLarge hasLevel diagram walk enter extend below terminal node edge lookUp tableT overOnlyOne permitFirst denyFirst ruleFor1InGroupFor0 silentBesidePermit oneSilent twoSilent emptyBesidePermit ruleRoot twoFaults groupsOfRules emptyRoot holdsRule holdsGroup mixedGroup ruleInOnlyOne ruleAsRoot profileRefusals childrenFrom upward settled word maximum valuesFrom maxima count header recordSize start recordByte recordWord parent level lengthFault versionFault countFault kindFault spanFault levelFault rangeFault rangesFault cardFault tableRefusals forestWithin inRange targetHolds applies bit someBelow countBelow appliesToSome subjectsFault gives cardsFrom le? lt? eq? iff? not? and? or? when? one-more? each? scan? start? entry-before? terminal-holds? sound-terminal? sound-node? sound-entry? sound?
+unfolding noScoutAttacks attachedT nested onLevels branching of127Nodes seats seatsApart withWord attachedBytes headersDiffer tooLarge hasLevel diagram walk enter extend below terminal node edge lookUp tableT overOnlyOne permitFirst denyFirst ruleFor1InGroupFor0 silentBesidePermit oneSilent twoSilent emptyBesidePermit ruleRoot twoFaults groupsOfRules emptyRoot holdsRule holdsGroup mixedGroup ruleInOnlyOne ruleAsRoot profileRefusals childrenFrom upward settled word maximum valuesFrom maxima countPlace count header recordSize start recordByte recordWord parent level lengthFault versionFault countFault kindFault spanFault levelFault rangeFault rangesFault cardFault tableRefusals forestWithin inRange targetHolds applies bit someBelow countBelow appliesToSome subjectsFault gives cardsFrom le? lt? eq? iff? not? and? or? when? one-more? each? scan? start? entry-before? terminal-holds? sound-terminal? sound-node? sound-entry? sound?
 cases-hold =
     record {
       t-0-0-0 = record { answer = refl; holds = refl };

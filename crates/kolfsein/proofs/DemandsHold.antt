@@ -15,7 +15,7 @@ use Rattle.answer.proofs.SameRuling.{same-ruling}
 use Rattle.table.specs.Layout.{maximum, maxima, count, kind}
 use Rattle.table.specs.Ranges.{rangesWord}
 use Rattle.table.specs.Reading.{tableRefusals, Accepted}
-use Rattle.table.proofs.Accepting.{accepted-reading}
+use Rattle.table.proofs.Accepting.{accepted-version, accepted-reading}
 use Rattle.table.proofs.Good.{ranges-within}
 use Rattle.table.proofs.AcceptedIsWellFormed.{well-formed}
 use Rattle.table.proofs.RangesReadBack.{ranges-fit, reads-back}
@@ -151,7 +151,8 @@ demands-hold =
       attach-refuses =
           λ b e n. answers refused (zeros n) (counted (length (attachedBytes b e))) (padded (attachedBytes b e) n) (attachRefusals b e n);
       ninth-level =
-          λ b e c d. let v = well-formed b c in let w = well-formed e d in ninth-level (attachedBytes b e) b e v w (bytes-fitted b e v w);
+          λ b e c d. let v = well-formed b c in let w = well-formed e d in
+          ninth-level (attachedBytes b e) b e v w (bytes-fitted b e v w (accepted-version b c ∙ sym (accepted-version e d)));
       unsound-refused = unsound;
       reading-counts = accepted-reading;
       build-counts = counts;

@@ -12,4 +12,6 @@ pub mod AcceptedIsWellFormed
 pub mod ParentsAndSpansAgree
 pub mod Maxima
 pub mod RangesReadBack
+pub mod SameBytes
 pub mod NumbersWritten
+pub mod Joined
