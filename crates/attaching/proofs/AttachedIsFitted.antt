@@ -79,3 +79,8 @@ module _ (b e : List ℕ) (a : Attaches b e) where
 
   pub attached-fails : (q : List ℕ) → targetHolds b q 0 ≡ false → groups t q ≡ record { decision = notApplicable; cards = [] }
   attached-fails = rulings.groups-failing t b e attached-accepted (a .base) (a .expansion) attached-fitted
+
+  pub attached-fails-together : (s : ℕ) (others : List ℕ) →
+      ((k : ℕ) → k < mostSubjects → member s k ≡ true → targetHolds b (k ∷ others) 0 ≡ false) →
+      groupsTogether t s others ≡ record { decision = notApplicable; cards = [] }
+  attached-fails-together = rulings.together-failing t b e attached-accepted (a .base) (a .expansion) attached-fitted
