@@ -21,7 +21,7 @@ use Rattle.attaching.specs.Attached.{attachedBytes, Attaches, attached, 
 use Rattle.attaching.specs.Fitted.{Fitted}
 use Rattle.attaching.specs.Meaning.{meaningWith, groupsWith, groupsTogetherWith}
 use Rattle.attaching.proofs.BytesFitted.{bytes-fitted}
-use Rattle.attaching.proofs.FitFaults.{none-fit}
+use Rattle.attaching.proofs.FitFaults.{versions-same, none-fit}
 use Rattle.attaching.proofs.FittedIsAccepted.{fitted-accepted}
 use Rattle.attaching.proofs.AttachAnswers.{written}
 use Rattle.attaching.proofs.Trees as trees
@@ -38,7 +38,7 @@ module _ (b e : List ℕ) (a : Attaches b e) where
   w = well-formed e (a .expansion)
 
   pub attached-fitted : Fitted t b e
-  attached-fitted = bytes-fitted b e v w
+  attached-fitted = bytes-fitted b e v w (versions-same b e (a .fit .1 .0))
 
   pub attached-written : (n : ℕ) → length t ≤ n → (attached b e n ≡ counted (length t)) × (attachedTable b e n ≡ padded t n)
   attached-written n l =
@@ -79,3 +79,8 @@ module _ (b e : List ℕ) (a : Attaches b e) where
 
   pub attached-fails : (q : List ℕ) → targetHolds b q 0 ≡ false → groups t q ≡ record { decision = notApplicable; cards = [] }
   attached-fails = rulings.groups-failing t b e attached-accepted (a .base) (a .expansion) attached-fitted
+
+  pub attached-fails-together : (s : ℕ) (others : List ℕ) →
+      ((k : ℕ) → k < mostSubjects → member s k ≡ true → targetHolds b (k ∷ others) 0 ≡ false) →
+      groupsTogether t s others ≡ record { decision = notApplicable; cards = [] }
+  attached-fails-together = rulings.together-failing t b e attached-accepted (a .base) (a .expansion) attached-fitted

@@ -1,19 +1,19 @@
 -- The bytes that attaching writes are a table that is the base with the expansion fitted to it.
 -- Assumes nothing.
-use mathlib.Core.Path.{_≡_, ap, ap₂, sym, _∙_}
+use mathlib.Core.Path.{_≡_, ap, sym, _∙_}
 use mathlib.Core.List.{List}
-use Prim.Native.Nat.{ℕ, _+_, _-_, _*_, _≤_, _<_}
+use Prim.Native.Nat.{ℕ, _+_, _-_, _≤_, _<_}
 use native.Mathlib.Omega.{arith}
-use lib.ListN.{length, drop, length-append, length-drop, List·getD-append}
-use lib.Seq.{getD-append-add, getD-drop}
-use Rattle.answer.specs.Fields.{fields}
-use Rattle.table.specs.Layout.{byte, word, maximum, count, header, recordSize, start, recordByte, recordWord, HeaderHeld}
+use lib.ListN.{length, drop, length-append, length-drop}
+use Rattle.table.specs.Layout.{bytesAfter, version, countPlace, count, header, start, span, HeaderHeld, NodeHeld}
 use Rattle.table.specs.Writing.{withBytesAfter, withCount}
 use Rattle.table.specs.WellFormed.{WellFormed}
-use Rattle.table.proofs.Places.{header-held}
-use Rattle.table.proofs.NumbersWritten.{length-with, word-written, byte-kept, word-kept-before}
+use Rattle.table.proofs.Places.{version-there, start-small, header-held, node-held, start-same, header-held-same, node-held-same}
+use Rattle.table.proofs.SameBytes.{SameHeader, SameRecord, header-on, node-on, record-on}
+use Rattle.table.proofs.NumbersWritten.{length-with, bytes-after-written, sized-header, sized-record, count-written, counted-header, counted-record, counted-bytes-after, span-written, spanned-header, spanned-node, spanned-record, spanned-count, spanned-bytes-after}
+use Rattle.table.proofs.Joined.{first-header, first-record, joined-record, joined-length}
 use Rattle.attaching.specs.Attached.{joined, nodes, attachedBytes}
-use Rattle.attaching.specs.Fitted.{SameNode, Fitted}
+use Rattle.attaching.specs.Fitted.{Fitted}
 
 module _ (b e : List ℕ) where
   -- how many bytes come after the first two
@@ -22,10 +22,10 @@ module _ (b e : List ℕ) where
 
   -- the bytes with their length, and then with their count too
 
-  abbrev sized : List ℕ
+  abbrev pub sized : List ℕ
   sized = withBytesAfter (joined b e) rest
 
-  abbrev numbered : List ℕ
+  abbrev pub numbered : List ℕ
   numbered = withCount sized (nodes b e)
 
   abbrev table : List ℕ
@@ -34,13 +34,16 @@ module _ (b e : List ℕ) where
   pub length-joined : length (joined b e) ≡ length b + (length e - header e)
   length-joined = length-append b (drop (header e) e) ∙ ap (λ n. length b + n) (length-drop (header e) e)
 
+  length-sized : length sized ≡ length (joined b e)
+  length-sized = length-with (joined b e) 0 rest
+
+  length-numbered : length numbered ≡ length (joined b e)
+  length-numbered = length-with sized (countPlace sized) (nodes b e) ∙ length-sized
+
   -- the table is as long as what was copied
   pub length-attached : length table ≡ length (joined b e)
   unfolding attachedBytes
-  length-attached =
-      length-with numbered (start numbered 0 + 1) (nodes b e)
-      ∙ length-with sized (3 + fields) (nodes b e)
-      ∙ length-with (joined b e) 0 rest
+  length-attached = length-with numbered (start numbered 0 + 1) (nodes b e) ∙ length-numbered
 
   -- as the code sums it
   pub size-is : length b + (length e - header e) ≡ length table
@@ -50,135 +53,101 @@ module _ (b e : List ℕ) where
     base-header : HeaderHeld b
     base-header = header-held b (v .records)
 
-    -- how long it is: that of its header and of all its nodes
-    pub length-all : length table ≡ start table (nodes b e)
-    unfolding start header recordSize
-    length-all = omega (arith, length-attached, length-joined, v .records, w .records)
-
     -- a number of two bytes
     pub size-small : length table < 65536
-    unfolding start header recordSize
-    size-small = omega (arith, length-attached, length-joined, v .records, w .records, v .few, w .few)
+    size-small =
+        omega (
+          arith,
+          length-attached,
+          length-joined,
+          v .records,
+          w .records,
+          start-small b (count b) (v .few),
+          start-small e (count e) (w .few),
+        )
 
-    -- what was copied has the root's record
-    pub root-there : start b 0 + 5 + 2 * fields ≤ length (joined b e)
-    unfolding start header recordSize
-    root-there = omega (arith, length-joined, v .records, w .records, v .some)
+    -- what is copied, and what it is with each number that is then written, has the base's version and maxima
 
-    -- a byte other than those of the three numbers is copied
-    copied : (q : ℕ) → 2 ≤ q → (q ≡ 3 + fields → ⊥) → (q ≡ 3 + fields + 1 → ⊥) → (q ≡ start b 0 + 1 → ⊥) → (q ≡ start b 0 + 1 + 1 → ⊥) →
-        byte table q ≡ byte (joined b e) q
-    unfolding attachedBytes start header recordSize
-    copied q l c d r s =
-        byte-kept numbered (start numbered 0 + 1) (nodes b e) q r s
-        ∙ byte-kept sized (3 + fields) (nodes b e) q c d
-        ∙ byte-kept (joined b e) 0 rest q (λ z. omega arith) (λ z. omega arith)
+    joined-header : SameHeader (joined b e) b
+    joined-header = first-header b (drop (header e) e) base-header
 
-    base-byte : (q : ℕ) → q < length b → byte (joined b e) q ≡ byte b q
-    base-byte q l = List·getD-append b (drop (header e) e) 0 q l
+    sized-as-base : SameHeader sized b
+    sized-as-base = header-on (sized-header (joined b e) rest) joined-header
 
-    expansion-byte : (q : ℕ) → byte (joined b e) (length b + q) ≡ byte e (header e + q)
-    expansion-byte q = getD-append-add b (drop (header e) e) q 0 ∙ getD-drop (header e) e q 0
+    numbered-as-base : SameHeader numbered b
+    numbered-as-base = header-on (counted-header sized (nodes b e)) sized-as-base
+
+    as-base : SameHeader table b
+    unfolding attachedBytes
+    as-base = header-on (spanned-header numbered 0 (nodes b e)) numbered-as-base
+
+    -- it has the header, and the root's record, that are written in
+
+    pub joined-held : HeaderHeld (joined b e)
+    joined-held = header-held-same (joined b e) b (joined-header .versions) (omega (arith, length-joined)) base-header
+
+    pub joined-long : 5 ≤ length (joined b e)
+    joined-long = version-there (joined b e) joined-held
+
+    pub sized-held : HeaderHeld sized
+    sized-held = header-held-same sized b (sized-as-base .versions) (omega (arith, length-sized, length-joined)) base-header
+
+    pub root-held : NodeHeld numbered 0
+    root-held =
+        node-held-same numbered b (numbered-as-base .versions) 0 (omega (arith, length-numbered, length-joined)) (node-held b (v .records) 0 (v .some))
 
     -- the three numbers
 
-    pub bytes-after : word table 0 ≡ rest
-    unfolding attachedBytes start header recordSize
+    pub bytes-after : bytesAfter table ≡ rest
+    unfolding attachedBytes
     bytes-after =
-        word-kept-before numbered (start numbered 0 + 1) (nodes b e) 0 (omega arith)
-        ∙ word-kept-before sized (3 + fields) (nodes b e) 0 (omega arith)
-        ∙ word-written (joined b e) 0 rest (omega (arith, root-there))
+        spanned-bytes-after numbered 0 (nodes b e)
+        ∙ counted-bytes-after sized (nodes b e)
+        ∙ bytes-after-written (joined b e) rest joined-held
 
     pub count-all : count table ≡ nodes b e
-    unfolding attachedBytes count start header recordSize
-    count-all =
-        word-kept-before numbered (start numbered 0 + 1) (nodes b e) (3 + fields) (omega arith)
-        ∙ word-written sized (3 + fields) (nodes b e) (omega (arith, length-with (joined b e) 0 rest, root-there))
+    unfolding attachedBytes
+    count-all = spanned-count numbered 0 (nodes b e) ∙ count-written sized (nodes b e) sized-held
 
-    root-spans : recordWord table 0 1 ≡ nodes b e
-    unfolding attachedBytes recordWord start header recordSize
-    root-spans =
-        word-written numbered (start numbered 0 + 1) (nodes b e)
-        (omega (arith, length-with sized (3 + fields) (nodes b e), length-with (joined b e) 0 rest, root-there))
+    root-spans : span table 0 ≡ nodes b e
+    unfolding attachedBytes
+    root-spans = span-written numbered 0 (nodes b e) root-held
 
-    -- the bytes of a record
+    -- the nodes, as they are copied
 
-    header-byte : (q : ℕ) → 2 ≤ q → q < 3 + fields → byte table q ≡ byte b q
-    unfolding start header recordSize
-    header-byte q l h =
-        copied q l (λ z. omega arith) (λ z. omega arith) (λ z. omega arith) (λ z. omega arith)
-        ∙ base-byte q (omega (arith, base-header))
+    counted-as-joined : (i : ℕ) → SameRecord numbered i (joined b e) i
+    counted-as-joined i = record-on (counted-record sized (nodes b e) i) (sized-record (joined b e) rest i)
 
-    -- of the base, but for the root's span
-    base-record : (i k : ℕ) → i < count b → k < 5 + 2 * fields → (i ≡ 0 → k ≡ 1 → ⊥) → (i ≡ 0 → k ≡ 2 → ⊥) →
-        recordByte table i k ≡ recordByte b i k
-    unfolding recordByte start header recordSize
-    base-record i k l h r s =
-        copied (start b i + k) (omega arith) (λ z. omega arith) (λ z. omega arith) (λ z. r (omega arith) (omega arith))
-        (λ z. s (omega arith) (omega arith))
-        ∙ base-byte (start b i + k) (omega (arith, v .records))
+    as-joined : (i : ℕ) → 0 < i → SameRecord table i (joined b e) i
+    unfolding attachedBytes
+    as-joined i l = record-on (spanned-record numbered 0 (nodes b e) i (λ z. omega arith)) (counted-as-joined i)
 
-    expansion-record : (i k : ℕ) → i < count e → k < 5 + 2 * fields → recordByte table (count b + i) k ≡ recordByte e i k
-    unfolding recordByte start header recordSize
-    expansion-record i k l h =
-        let z : start table (count b + i) + k ≡ length b + (recordSize e * i + k) = omega (arith, v .records) in
-        let y : header e + (recordSize e * i + k) ≡ start e i + k = omega arith in
-        ap (byte table) z
-        ∙ copied (length b + (recordSize e * i + k)) (omega (arith, v .records)) (λ z. omega (arith, v .records)) (λ z. omega (arith, v .records))
-        (λ z. omega (arith, v .records, v .some)) (λ z. omega (arith, v .records, v .some))
-        ∙ expansion-byte (recordSize e * i + k)
-        ∙ ap (byte e) y
+    base-record : (i : ℕ) → i < count b → SameRecord (joined b e) i b i
+    base-record i l = first-record b (drop (header e) e) i (node-held b (v .records) i l)
 
-    -- the numbers of two bytes of a node are those of another that has the same bytes
-    same-word : (t : List ℕ) (i : ℕ) (u : List ℕ) (j k : ℕ) → recordByte t i k ≡ recordByte u j k → recordByte t i (k + 1) ≡ recordByte u j (k + 1) →
-        recordWord t i k ≡ recordWord u j k
-    unfolding recordWord recordByte word
-    same-word t i u j k p q = word-of t i ∙ ap₂ (λ x y. x * 256 + y) p q ∙ sym (word-of u j)
-      where
-        word-of : (s : List ℕ) (m : ℕ) → recordWord s m k ≡ recordByte s m k * 256 + recordByte s m (k + 1)
-        word-of s m = let z : start s m + k + 1 ≡ start s m + (k + 1) = omega arith in ap (λ p. byte s (start s m + k) * 256 + byte s p) z
+    -- where both are of one version
+    module _ (s : version b ≡ version e) where
+      expansion-record : (i : ℕ) → i < count e → SameRecord table (count b + i) e i
+      expansion-record i l = record-on (as-joined (count b + i) (omega (arith, v .some))) (joined-record b e (count b) (v .records) s i)
 
-    base-node : (i : ℕ) → i < count b → SameNode table i b i
-    base-node i l =
-        let at : (k : ℕ) → k < 5 + 2 * fields → (k ≡ 1 → ⊥) → (k ≡ 2 → ⊥) → recordByte table i k ≡ recordByte b i k =
-        λ k h r s. base-record i k l h (λ _. r) (λ _. s) in
-        record {
-          kinds = at 0 (omega arith) (λ z. omega arith) (λ z. omega arith);
-          cards =
-              same-word table i b i 3 (at 3 (omega arith) (λ z. omega arith) (λ z. omega arith)) (at (3 + 1) (omega arith) (λ z. omega arith) (λ z. omega arith));
-          lows = λ f h. at (5 + 2 * f) (omega arith) (λ z. omega arith) (λ z. omega arith);
-          highs = λ f h. at (5 + 2 * f + 1) (omega arith) (λ z. omega arith) (λ z. omega arith);
-        }
+      -- how long it is: that of its header and of all its nodes
+      length-all : length table ≡ start table (nodes b e)
+      length-all =
+          length-attached
+          ∙ joined-length b e (count b) (v .records) s (count e) (w .records)
+          ∙ sym (start-same table b (as-base .versions) (nodes b e))
 
-    expansion-node : (i : ℕ) → i < count e → SameNode table (count b + i) e i
-    expansion-node i l =
-        let at : (k : ℕ) → k < 5 + 2 * fields → recordByte table (count b + i) k ≡ recordByte e i k = λ k h. expansion-record i k l h in
-        record {
-          kinds = at 0 (omega arith);
-          cards = same-word table (count b + i) e i 3 (at 3 (omega arith)) (at (3 + 1) (omega arith));
-          lows = λ f h. at (5 + 2 * f) (omega arith);
-          highs = λ f h. at (5 + 2 * f + 1) (omega arith);
-        }
-
-    base-maximum : (f : ℕ) → f < fields → maximum table f ≡ maximum b f
-    unfolding maximum
-    base-maximum f l = header-byte (3 + f) (omega arith) (omega arith)
-
-    pub bytes-fitted : Fitted table b e
-    bytes-fitted = record {
-      counts = count-all;
-      root-span = root-spans ∙ sym count-all;
-      long = omega (arith, bytes-after, length-attached, root-there);
-      records = length-all ∙ ap (start table) (sym count-all);
-      versions = header-byte 2 (omega arith) (omega arith);
-      maxima = base-maximum;
-      base-nodes = base-node;
-      base-spans =
-          λ i h l.
-          same-word table i b i 1 (base-record i 1 l (omega arith) (λ z. absurd (omega arith)) (λ z. absurd (omega arith)))
-          (base-record i (1 + 1) l (omega arith) (λ z. absurd (omega arith)) (λ z. absurd (omega arith)));
-      expansion-nodes = expansion-node;
-      expansion-spans =
-          λ i l.
-          same-word table (count b + i) e i 1 (expansion-record i 1 l (omega arith)) (expansion-record i (1 + 1) l (omega arith));
-    }
+      pub bytes-fitted : Fitted table b e
+      unfolding attachedBytes
+      bytes-fitted = record {
+        counts = count-all;
+        root-span = root-spans ∙ sym count-all;
+        long = omega (arith, bytes-after, length-attached, joined-long);
+        records = length-all ∙ ap (start table) (sym count-all);
+        versions = as-base .versions;
+        maxima = as-base .maxima;
+        base-nodes = λ i l. node-on (spanned-node numbered 0 (nodes b e) i) (record-on (counted-as-joined i) (base-record i l) .node);
+        base-spans = λ i h l. as-joined i h .spans ∙ base-record i l .spans;
+        expansion-nodes = λ i l. expansion-record i l .node;
+        expansion-spans = λ i l. expansion-record i l .spans;
+      }

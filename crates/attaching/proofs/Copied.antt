@@ -1,20 +1,19 @@
 -- Laws of the bytes that are copied into a table, and of the three numbers that are then written.
 -- Assumes nothing.
-use mathlib.Core.Path.{_≡_, sym, ap, ap₂, _∙_}
+use mathlib.Core.Path.{_≡_, sym, ap, ap₂, subst, _∙_}
 use mathlib.Core.List.{List, _++_}
 use Prim.Native.Nat.{ℕ, _+_, _-_, _≤_}
 use native.Mathlib.Omega.{arith}
 use lib.ListN.{length, take, drop, length-drop}
 use lib.Seq.{sets, take-all}
-use Rattle.answer.specs.Fields.{fields}
 use Rattle.answer.specs.Answers.{zeros, padded}
 use Rattle.answer.proofs.Stored.{stored-join, stored-padded}
-use Rattle.table.specs.Layout.{header, recordSize, start, HeaderHeld, NodeHeld}
+use Rattle.table.specs.Layout.{header, HeaderHeld, NodeHeld}
 use Rattle.table.specs.Writing.{withBytesAfter, withCount, withSpan}
 use Rattle.table.specs.WellFormed.{WellFormed}
-use Rattle.table.proofs.NumbersWritten.{length-with, with-append}
+use Rattle.table.proofs.Joined.{first-held, first-node-held, first-bytes-after, first-count, first-span}
 use Rattle.attaching.specs.Attached.{joined, nodes, attachedBytes}
-use Rattle.attaching.proofs.BytesFitted.{rest, length-joined, length-attached, root-there}
+use Rattle.attaching.proofs.BytesFitted.{rest, sized, numbered, length-joined, length-attached, joined-held, sized-held, root-held}
 
 module _ (b e : List ℕ) where
   -- the part of the expansion after its header
@@ -41,34 +40,36 @@ module _ (b e : List ℕ) where
   pub base-fits : (n : ℕ) → length (joined b e) ≤ n → 0 + length b ≤ n
   base-fits n l = omega (arith, length-joined b e)
 
-  module _ (v : WellFormed b) (w : WellFormed e) where
-    -- what is written in has its header and its root
-    pub all-held : (t : List ℕ) → length (joined b e) ≤ length t → HeaderHeld t × NodeHeld t 0
-    unfolding start header recordSize
-    all-held t l = (omega (arith, root-there b e v w), omega (arith, root-there b e v w))
+  -- in zeros, the bytes and then their length, their count and the root's span: each time the header, or the root, to write in is there
+  module _ (v : WellFormed b) (w : WellFormed e) (n : ℕ) (l : length (joined b e) ≤ n) where
+    abbrev after : List ℕ
+    after = zeros (n - length (joined b e))
 
-    -- in zeros, the bytes and then their length, their count and the root's span
-    module _ (n : ℕ) (l : length (joined b e) ≤ n) where
-      abbrev after : List ℕ
-      after = zeros (n - length (joined b e))
+    module _ (before copied : List ℕ) (p : before ≡ zeros n) (q : copied ≡ sets before 0 (joined b e)) where
+      copied-is : copied ≡ joined b e ++ after
+      copied-is = q ∙ ap (λ xs. sets xs 0 (joined b e)) p ∙ stored-padded (joined b e) n l
 
-      pub written-all : (before copied sized numbered table : List ℕ) → before ≡ zeros n → copied ≡ sets before 0 (joined b e) →
-          sized ≡ withBytesAfter copied (rest b e) → numbered ≡ withCount sized (nodes b e) → table ≡ withSpan numbered 0 (nodes b e) →
-          table ≡ padded (attachedBytes b e) n
-      unfolding attachedBytes start header recordSize
-      written-all before copied sized numbered table p q r s t =
-          let j = joined b e in
-          let k = withBytesAfter j (rest b e) in
-          let m = withCount k (nodes b e) in
-          let there = root-there b e v w in
-          let first : copied ≡ j ++ after = q ∙ ap (λ xs. sets xs 0 j) p ∙ stored-padded j n l in
-          let second : sized ≡ k ++ after =
-          r ∙ ap (λ xs. withBytesAfter xs (rest b e)) first ∙ with-append j 0 (rest b e) after (omega (arith, there)) in
-          let third : numbered ≡ m ++ after =
-          s ∙ ap (λ xs. withCount xs (nodes b e)) second
-          ∙ with-append k (3 + fields) (nodes b e) after (omega (arith, there, length-with j 0 (rest b e))) in
-          let fourth : table ≡ attachedBytes b e ++ after =
-          t ∙ ap (λ xs. withSpan xs 0 (nodes b e)) third
-          ∙ with-append m (start m 0 + 1) (nodes b e) after
-          (omega (arith, there, length-with j 0 (rest b e), length-with k (3 + fields) (nodes b e))) in
-          fourth ∙ ap (λ i. attachedBytes b e ++ zeros (n - i)) (sym (length-attached b e))
+      pub copied-there : HeaderHeld copied
+      copied-there = subst HeaderHeld (sym copied-is) (first-held (joined b e) after (joined-held b e v w))
+
+      module _ (long : List ℕ) (r : long ≡ withBytesAfter copied (rest b e)) where
+        long-is : long ≡ sized b e ++ after
+        long-is = r ∙ ap (λ xs. withBytesAfter xs (rest b e)) copied-is ∙ first-bytes-after (joined b e) after (joined-held b e v w) (rest b e)
+
+        pub long-there : HeaderHeld long
+        long-there = subst HeaderHeld (sym long-is) (first-held (sized b e) after (sized-held b e v w))
+
+        module _ (counted : List ℕ) (s : counted ≡ withCount long (nodes b e)) where
+          counted-is : counted ≡ numbered b e ++ after
+          counted-is = s ∙ ap (λ xs. withCount xs (nodes b e)) long-is ∙ first-count (sized b e) after (sized-held b e v w) (nodes b e)
+
+          pub root-there : NodeHeld counted 0
+          root-there = subst (λ t. NodeHeld t 0) (sym counted-is) (first-node-held (numbered b e) after 0 (root-held b e v w))
+
+          pub written-all : (table : List ℕ) → table ≡ withSpan counted 0 (nodes b e) → table ≡ padded (attachedBytes b e) n
+          unfolding attachedBytes
+          written-all table t =
+              t
+              ∙ ap (λ xs. withSpan xs 0 (nodes b e)) counted-is
+              ∙ first-span (numbered b e) after 0 (root-held b e v w) (nodes b e)
+              ∙ ap (λ i. attachedBytes b e ++ zeros (n - i)) (sym (length-attached b e))

@@ -45,32 +45,39 @@ module _ (b e : List ℕ) where
   pub same-more : (f : ℕ) → someBelow f differs ≡ false → maximum b f ≡ maximum e f → someBelow (f + 1) differs ≡ false
   same-more f h s = some-more differs f h (ap not (eq-eqb (maximum b f) (maximum e f) s))
 
+  -- where 18 does not apply
+
+  no-difference : headersDiffer b e ≡ false → (not (eqb (version b) (version e)) ≡ false) × (someBelow fields differs ≡ false)
+  unfolding headersDiffer
+  no-difference h = neither (not (eqb (version b) (version e))) (someBelow fields differs) h
+
+  pub versions-same : headersDiffer b e ≡ false → version b ≡ version e
+  versions-same h = eqb-true (version b) (version e) (not-false _ (no-difference h .0))
+
+  maxima-same : headersDiffer b e ≡ false → (f : ℕ) → f < fields → maximum b f ≡ maximum e f
+  maxima-same h f l = eqb-true (maximum b f) (maximum e f) (not-false _ (none-each differs fields (no-difference h .1) f l))
+
   module _ (v : WellFormed b) (w : WellFormed e) where
-    -- 19, by the nodes of both and the levels of the expansion
-    pub too-large-is : tooLarge b e ≡ (ltb 128 (nodes b e) || hasLevel e 8)
-    unfolding tooLarge
-    too-large-is = ap₂ (λ n l. ltb 128 n || l) (count-all b e v w) (ninth-level (attachedBytes b e) b e v w (bytes-fitted b e v w))
+    -- 19 of tables of one version, by the nodes of both and the levels of the expansion
+    module _ (s : version b ≡ version e) where
+      pub too-large-is : tooLarge b e ≡ (ltb 128 (nodes b e) || hasLevel e 8)
+      unfolding tooLarge
+      too-large-is = ap₂ (λ n l. ltb 128 n || l) (count-all b e v w) (ninth-level (attachedBytes b e) b e v w (bytes-fitted b e v w s))
 
-    pub too-many : 128 < nodes b e → true ≡ tooLarge b e
-    too-many l = sym (too-large-is ∙ ap (λ x. x || hasLevel e 8) (lt-ltb 128 (nodes b e) l))
+      pub too-many : 128 < nodes b e → true ≡ tooLarge b e
+      too-many l = sym (too-large-is ∙ ap (λ x. x || hasLevel e 8) (lt-ltb 128 (nodes b e) l))
 
-    pub by-levels : nodes b e ≤ 128 → hasLevel e 8 ≡ tooLarge b e
-    by-levels l = sym (too-large-is ∙ ap (λ x. x || hasLevel e 8) (le-ltb 128 (nodes b e) l))
+      pub by-levels : nodes b e ≤ 128 → hasLevel e 8 ≡ tooLarge b e
+      by-levels l = sym (too-large-is ∙ ap (λ x. x || hasLevel e 8) (le-ltb 128 (nodes b e) l))
 
     not-deep : hasLevel e 8 ≡ false → (i : ℕ) → i < count e → level e i < 8
     unfolding hasLevel
     not-deep h i l = leb-false 8 (level e i) (none-each (λ j. leb 8 (level e j)) (count e) h i l)
 
-    maxima-same : headersDiffer b e ≡ false → (f : ℕ) → f < fields → maximum b f ≡ maximum e f
-    unfolding headersDiffer
-    maxima-same h f l =
-        eqb-true (maximum b f) (maximum e f)
-        (not-false _ (none-each differs fields (neither (not (eqb (version b) (version e))) (someBelow fields differs) h .1) f l))
-
     -- where none of them applies, the two fit
     pub none-fit : None (fitRefusals b e) → Fit b e
     none-fit h =
-        let p = neither (ltb 128 (nodes b e)) (hasLevel e 8) (sym too-large-is ∙ h .1 .1 .0) in
+        let p = neither (ltb 128 (nodes b e)) (hasLevel e 8) (sym (too-large-is (versions-same (h .1 .0))) ∙ h .1 .1 .0) in
         record {
           group = leb-false 4 (kind b 0) (h .0);
           maxima = maxima-same (h .1 .0);

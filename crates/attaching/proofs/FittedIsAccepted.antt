@@ -14,7 +14,7 @@ use Rattle.table.specs.Reading.{Accepted}
 use Rattle.table.specs.WellFormed.{WellFormed}
 use Rattle.table.proofs.Tree.{parent-below}
 use Rattle.table.proofs.Places.{header-held}
-use Rattle.table.proofs.Header.{Headed, headed-passes, headed-version}
+use Rattle.table.proofs.Header.{Headed, headed-passes, version-fault-same}
 use Rattle.table.proofs.Good.{Good, good, good-passes}
 use Rattle.table.proofs.Accepting.{accepted-header, accepted-node, passed-accepted}
 use Rattle.table.proofs.AcceptedIsWellFormed.{well-formed}
@@ -128,5 +128,5 @@ module _ (t b e : List ℕ) (c : Accepted b) (d : Accepted e) (f : Fitted t b e)
 
   pub fitted-accepted : Accepted t
   fitted-accepted =
-      passed-accepted t (headed-passes t all-headed (f .long) (f .versions ∙ headed-version b (accepted-header b c)))
+      passed-accepted t (headed-passes t all-headed (f .long) (version-fault-same t b (f .versions) ∙ accepted-header b c .1 .0))
       (λ i l. good-passes t i (each-good i l))

@@ -12,11 +12,12 @@ use Rattle.answer.specs.Fields.{fields}
 use Rattle.answer.specs.Requests.{value}
 use Rattle.answer.proofs.SameRuling.{same-ruling}
 use Rattle.answer.proofs.Tests.{lt-or-ge, both, passes-alike}
-use Rattle.answer.proofs.Below.{every-same, some-same}
+use Rattle.answer.proofs.Below.{every-same, some-none, some-same}
 use Rattle.combining.specs.Ways.{notApplicable}
 use Rattle.table.specs.Layout.{count}
 use Rattle.table.specs.Tree.{endOf}
 use Rattle.table.specs.Reading.{Accepted}
+use Rattle.table.specs.SameNode.{SameNode}
 use Rattle.table.specs.WellFormed.{WellFormed}
 use Rattle.table.proofs.AcceptedIsWellFormed.{well-formed}
 use Rattle.ruling.specs.Forest.{under, childrenOf}
@@ -30,7 +31,7 @@ use Rattle.ruling.proofs.NodesAlike.{Agree, gives-same, decision-same, cards-sa
 use Rattle.ruling.proofs.ChildrenByParents.{EachOf, children-each}
 use Rattle.ruling.proofs.DecisionByChildren.{children-decide}
 use Rattle.ruling.proofs.Applies.{applies-where, applies-each, applies-under}
-use Rattle.attaching.specs.Fitted.{SameNode, Fitted}
+use Rattle.attaching.specs.Fitted.{Fitted}
 use Rattle.attaching.specs.Meaning.{meaningWith, appliesUnder, appliesToSomeUnder, groupsWith, groupsTogetherWith}
 use Rattle.attaching.proofs.Trees.{root-end, base-inside, base-reaches, base-reached, expansion-end, last-child}
 
@@ -197,15 +198,19 @@ module _ (t b e : List ℕ) (u : Accepted t) (c : Accepted b) (d : Accepted e) (
   groups-holding q h =
       meaning-fitted (applies t q) (applies b q) (applies e q) (applies-base q) (λ i l. applies-expansion q i l ∙ ap (λ x. x && applies e q i) h)
 
-  -- and nothing is given where it fails
+  -- where no node applies nothing is given
+  none-given : (a : ℕ → Bool) → ((i : ℕ) → i < count t → a i ≡ false) → meaning a t ≡ record { decision = notApplicable; cards = [] }
+  none-given a out =
+      same-ruling (meaning a t) (record { decision = notApplicable; cards = [] })
+      (gives-not a t 0 (children a t (under t 0)) (out 0 (well-formed t u .some)))
+      (cards-skip a t (count t) 0 (λ i l m. out i (omega arith)))
+
+  -- and none does where the base root's target fails
+  out-failing : (q : List ℕ) → targetHolds b q 0 ≡ false → (i : ℕ) → i < count t → applies t q i ≡ false
+  out-failing q h i l = applies-under t q 0 i (omega arith) (omega (arith, f .root-span)) (base-target q 0 (v .some) ∙ h)
+
   pub groups-failing : (q : List ℕ) → targetHolds b q 0 ≡ false → groups t q ≡ record { decision = notApplicable; cards = [] }
-  groups-failing q h =
-      same-ruling (groups t q) (record { decision = notApplicable; cards = [] })
-      (gives-not (applies t q) t 0 (children (applies t q) t (under t 0)) (out 0 (well-formed t u .some)))
-      (cards-skip (applies t q) t (count t) 0 (λ i l m. out i (omega arith)))
-    where
-      out : (i : ℕ) → i < count t → applies t q i ≡ false
-      out i l = applies-under t q 0 i (omega arith) (omega (arith, f .root-span)) (base-target q 0 (v .some) ∙ h)
+  groups-failing q h = none-given (applies t q) (out-failing q h)
 
   -- for several subjects that ask together
   module _ (s : ℕ) (others : List ℕ) where
@@ -239,3 +244,17 @@ module _ (t b e : List ℕ) (u : Accepted t) (c : Accepted b) (d : Accepted e) (
         by : (x y z : Bool) → (x ≡ true → y ≡ true) → (x && (y && z)) ≡ (x && z)
         by true y z g = ap (λ y. y && z) (g refl)
         by false y z g = refl
+
+    -- where it fails for each of them
+    pub together-failing : ((k : ℕ) → k < mostSubjects → member s k ≡ true → targetHolds b (k ∷ others) 0 ≡ false) →
+        groupsTogether t s others ≡ record { decision = notApplicable; cards = [] }
+    unfolding appliesToSome
+    together-failing h =
+        none-given (appliesToSome t s others)
+        (λ i l.
+        some-none (λ k. member s k && applies t (k ∷ others) i) mostSubjects
+        (λ k m. by (member s k) (applies t (k ∷ others) i) (λ e. out-failing (k ∷ others) (h k m e) i l)))
+      where
+        by : (x y : Bool) → (x ≡ true → y ≡ false) → (x && y) ≡ false
+        by true y g = g refl
+        by false y g = refl

@@ -5,14 +5,8 @@ use mathlib.Core.Path.{_≡_}
 use Prim.Native.Nat.{ℕ, _+_, _<_}
 use lib.ListN.{length}
 use Rattle.answer.specs.Fields.{fields}
-use Rattle.table.specs.Layout.{bytesAfter, version, maximum, count, start, kind, span, card, low, high}
-
--- Node i of table t has the kind, the card and the ranges of node j of table u.
-pub record SameNode (t : List ℕ) (i : ℕ) (u : List ℕ) (j : ℕ) : Type 0 where
-  pub kinds : kind t i ≡ kind u j
-  pub cards : card t i ≡ card u j
-  pub lows : (f : ℕ) → f < fields → low t i f ≡ low u j f
-  pub highs : (f : ℕ) → f < fields → high t i f ≡ high u j f
+use Rattle.table.specs.Layout.{bytesAfter, version, maximum, count, start, span}
+use Rattle.table.specs.SameNode.{SameNode}
 
 -- Table t is base b with expansion e fitted to it.
 pub record Fitted (t b e : List ℕ) : Type 0 where

@@ -8,7 +8,7 @@ use table::levels::has_last_level;
 use table::reading::rule_at;
 ghost use mathlib.Core.Path.{_≡_};
 ghost use Rattle.answer.specs.Refusals.{firstNumber};
-ghost use Rattle.table.specs.Layout.{HeaderHeld};
+ghost use Rattle.table.specs.Layout.{version, HeaderHeld};
 ghost use Rattle.table.specs.WellFormed.{WellFormed};
 ghost use Rattle.attaching.specs.Attached.{headersDiffer, tooLarge, fitRefusals};
 
@@ -33,6 +33,7 @@ fn headers_differ(base: &[u8], expansion: &[u8]) -> bool
 // Refusal 19: too many nodes in all, or a node of the expansion on the last level, since all of them come to stand one level deeper.
 fn too_large(base: &[u8], expansion: &[u8]) -> bool
     requires { ⌜ WellFormed (now base) × WellFormed (now expansion) ⌝ }
+    requires { ⌜ version (now base) ≡ version (now expansion) ⌝ }
     ensures { λ r. ⌜ r ≡ tooLarge (now (base .entry)) (now (expansion .entry)) ⌝ }
 {
     if NODES < count_at(base) + count_at(expansion) {

@@ -3,11 +3,11 @@ use mathlib.Core.Path.{_≡_, refl, sym, ap, _∙_}
 use mathlib.Core.Bool.{Bool, true, false}
 use mathlib.Core.Logic.{_↔_}
 use mathlib.Core.List.{List, [], _++_, map}
-use Prim.Native.Nat.{ℕ, _-_, _<_}
+use Prim.Native.Nat.{ℕ, _-_, _≤_, _<_}
 use native.Mathlib.Omega.{arith}
 use borrow.Author.Tests.{leb-false}
 use lib.ListN.{length}
-use Rattle.answer.specs.Answers.{ruled, zeros, padded}
+use Rattle.answer.specs.Answers.{counted, ruled, zeros, padded}
 use Rattle.answer.specs.Rulings.{answerOf}
 use Rattle.answer.proofs.SameRuling.{same-ruling}
 use Rattle.combining.specs.Ways.{notApplicable, Child}
@@ -15,6 +15,7 @@ use Rattle.combining.proofs.Fold.{pick, way-none}
 use Rattle.table.specs.Layout.{maximum, maxima, count, kind}
 use Rattle.table.specs.Reading.{Accepted}
 use Rattle.table.proofs.AcceptedIsWellFormed.{well-formed}
+use Rattle.table.proofs.Computing.{table-computes}
 use Rattle.ruling.specs.Forest.{childrenFrom}
 use Rattle.ruling.specs.Targets.{targetHolds, applies}
 use Rattle.ruling.specs.Subjects.{appliesToSome, size, AskedWithin}
@@ -27,15 +28,18 @@ use Rattle.ruling.proofs.CardsOfMatchingRules.{each-listed, number-of-cards}
 use Rattle.ruling.proofs.DecisionAsWorded.{decision-as-worded}
 use Rattle.ruling.proofs.DecisionByChildren.{decision-by-children}
 use Rattle.ruling.proofs.Decisions.{gives-not, gives-group}
+use Rattle.diagram.specs.OneRuling.{oneRuling}
 use Rattle.diagram.specs.LookedUp.{lookedUp, lookedUpList}
+use Rattle.diagram.proofs.Computing.{diagram-computes}
+use Rattle.diagram.proofs.DiagramGoesByRulingsWithin.{diagram-goes-by-rulings-within}
+use Rattle.diagram.proofs.OneRulingForAll.{one-ruling-for-all}
 use Rattle.building.specs.Built.{diagramOf, roomRefusal, built, builtDiagram}
 use Rattle.building.proofs.BuildAnswers.{none-fits, succeeds-exactly, accepted-built, used-part}
 use Rattle.building.proofs.BuiltAnswersAsGroups.{built-answers}
 use Rattle.building.proofs.EqualExactlyWhenTablesAlike.{equal-exactly-when-tables-alike}
 use Rattle.demands.specs.Words.{WithinFields, LongEnough, Rules, Builds, usedPart, RuleAlike}
-use Rattle.demands.specs.Tables.{maximaT, emptyRoot}
 use Rattle.demands.specs.Outcomes.{GivesRuling, GivesDiagram}
-use Rattle.demands.specs.Demand3.{Demand3, EmptyRoot, Demand3Cases}
+use Rattle.demands.specs.Demand3.{Demand3, EmptyRoot, noneRuled, Demand3Cases}
 use Rattle.demands.proofs.Computing.{cases-compute}
 use Rattle.demands.proofs.Demand2Holds.{question}
 
@@ -107,8 +111,8 @@ module _ (t : List ℕ) (e : EmptyRoot t) (a : ℕ → Bool) where
   unfolding cardsFrom
   empty-cards = ap (cardsFrom a t 0) (e .alone) ∙ rw (matches-group a t 0 group) refl
 
-  empty-meaning : meaning a t ≡ record { decision = notApplicable; cards = [] }
-  empty-meaning = same-ruling (meaning a t) (record { decision = notApplicable; cards = [] }) empty-decision empty-cards
+  empty-meaning : meaning a t ≡ noneRuled
+  empty-meaning = same-ruling (meaning a t) noneRuled empty-decision empty-cards
 
 empty-rules : (t : List ℕ) → EmptyRoot t → (s : ℕ) (others : List ℕ) → AskedWithin (maximum t) s others →
     (n : ℕ) → GivesRuling t s others n (ruled notApplicable 0 (size s)) (zeros n)
@@ -118,11 +122,25 @@ empty-rules t e s others asked n =
     let h = question t s others n (e .accepted) asked (omega (arith, ap (λ r. length (r .cards)) m)) in
     (h .answer ∙ ap (λ r. answerOf r (size s)) m, h .cards ∙ ap (λ r. padded (r .cards) n) m ∙ ap zeros none)
 
+empty-diagram : (t : List ℕ) → EmptyRoot t → diagramOf t ≡ oneRuling (maxima t) noneRuled
+empty-diagram t e =
+    diagram-goes-by-rulings-within (maxima t) (groups t) (λ q. noneRuled) (λ q w. empty-meaning t e (applies t q))
+    ∙ one-ruling-for-all (maxima t) noneRuled
+
+empty-builds : (t : List ℕ) → EmptyRoot t → (n : ℕ) → 20 ≤ n → GivesDiagram t n (counted 20) (padded (oneRuling (maxima t) noneRuled) n)
+unfolding table-computes diagram-computes
+empty-builds t e n l =
+    let d = empty-diagram t e in
+    let size : length (diagramOf t) ≡ 20 = ap length d in
+    let h = accepted-built t n (e .accepted) (omega (arith, size), omega (arith, size)) in
+    (h .0 ∙ ap counted size, h .1 ∙ ap (λ d. padded d n) d)
+
 pub demand-3-cases : Demand3Cases
 unfolding cases-compute
 demand-3-cases = record {
   t-into-63 = (refl, refl);
   t-into-64 = (refl, refl);
   empty-root = empty-rules;
-  empty-root-built = pick 4 _ ((refl, refl), ((refl, refl), ((refl, refl), ((refl, refl), tt))));
+  empty-root-built = empty-builds;
+  empty-root-of-each-kind = pick 4 _ ((refl, refl), ((refl, refl), ((refl, refl), ((refl, refl), tt))));
 }

@@ -29,7 +29,7 @@ pub request-6 : Request6
 request-6 = record {
   attach-refuses =
       λ b e n. answers refused (zeros n) (counted (length (attachedBytes b e))) (padded (attachedBytes b e) n) (attachRefusals b e n);
-  ninth-level = λ b e c d. let v = well-formed b c in let w = well-formed e d in ninth-level (attachedBytes b e) b e v w (bytes-fitted b e v w);
+  ninth-level = λ b e c d s. let v = well-formed b c in let w = well-formed e d in ninth-level (attachedBytes b e) b e v w (bytes-fitted b e v w s);
   attach-counts = λ b e n a. attaching.attached-written b e a n;
   attached-accepted = attaching.attached-accepted;
   attached-nodes = attaching.attached-fitted;
@@ -41,6 +41,7 @@ request-6 = record {
   attached-holds = attaching.attached-holds;
   attached-holds-together = attaching.attached-holds-together;
   attached-fails = attaching.attached-fails;
+  attached-fails-together = attaching.attached-fails-together;
   attached-standard = attached-standard;
   attached-mixed = attached-mixed;
 }
@@ -64,7 +65,7 @@ unfolding tables-compute ruling-computes headersDiffer
 of-128 =
     let b = of127Nodes in
     let e = emptyRoot 0 onePlace in
-    let small = too-large-is b e (well-formed b accepted-127) (well-formed e accepted-one) in
+    let small = too-large-is b e (well-formed b accepted-127) (well-formed e accepted-one) refl in
     let a : Attaches b e = record { base = accepted-127; expansion = accepted-one; fit = (refl, (refl, (small, tt))) } in
     let size : length (attachedBytes b e) ≡ 1416 = sym (size-is b e) in
     attaching.attached-written b e a 1416 (omega (arith, size)) .0 ∙ ap counted size
@@ -74,7 +75,7 @@ unfolding tables-compute ruling-computes headersDiffer
 of-129 =
     let b = of127Nodes in
     let e = onLevels 2 in
-    let large = too-many b e (well-formed b accepted-127) (well-formed e accepted-two) (omega arith) in
+    let large = too-many b e (well-formed b accepted-127) (well-formed e accepted-two) refl (omega arith) in
     let h =
     fit-refused b e 1427 accepted-127 accepted-two 19 (refused 19 0) (zeros 1427) (ap (λ x. cond x 19 0) large) (λ z. omega arith) refl refl in
     (sym (h .0), sym (h .1))

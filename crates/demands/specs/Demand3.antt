@@ -9,6 +9,7 @@ use mathlib.Core.Path.{_≡_}
 use Prim.Native.Nat.{ℕ, _≤_, _<_}
 use lib.ListN.{length, getD}
 use Rattle.answer.specs.Answers.{counted, ruled, zeros, padded}
+use Rattle.answer.specs.Rulings.{Ruling}
 use Rattle.combining.specs.Ways.{notApplicable}
 use Rattle.table.specs.Layout.{maximum, maxima, count, card}
 use Rattle.table.specs.Tree.{isRule, Above}
@@ -18,6 +19,7 @@ use Rattle.ruling.specs.Subjects.{size, AskedWithin}
 use Rattle.ruling.specs.Meaning.{matches, matching}
 use Rattle.ruling.specs.AsWorded.{decisionAsWorded}
 use Rattle.ruling.specs.Ruling.{groups}
+use Rattle.diagram.specs.OneRuling.{oneRuling}
 use Rattle.diagram.specs.LookedUp.{lookedUp, lookedUpList}
 use Rattle.diagram.specs.SmallRulebook.{diagramT}
 use Rattle.building.specs.Built.{diagramOf, roomRefusal, built, builtDiagram}
@@ -55,6 +57,10 @@ pub record EmptyRoot (t : List ℕ) : Type 0 where
   pub alone : count t ≡ 1
   pub group : isRule t 0 ≡ false
 
+-- "none everywhere": not applicable, with no card
+abbrev pub noneRuled : Ruling
+noneRuled = record { decision = notApplicable; cards = [] }
+
 pub record Demand3Cases : Type 0 where
   -- "Its diagram has 63 places, root at 55": "T into 62 places: refusal 11. Into 63: built." One place more becomes 0.
   pub t-into-63 : GivesDiagram (tableT 3) 63 (counted 63) diagramT
@@ -62,8 +68,10 @@ pub record Demand3Cases : Type 0 where
   -- "An empty root: none everywhere": for every set that asks within its maxima and every list
   pub empty-root : (t : List ℕ) → EmptyRoot t → (s : ℕ) (others : List ℕ) → AskedWithin (maximum t) s others →
       (n : ℕ) → GivesRuling t s others n (ruled notApplicable 0 (size s)) (zeros n)
-  -- "20 places, root at 16."
-  pub empty-root-built : (kind : ℕ) → kind < 4 →
+  -- "20 places": in every room that has them
+  pub empty-root-built : (t : List ℕ) → EmptyRoot t → (n : ℕ) → 20 ≤ n → GivesDiagram t n (counted 20) (padded (oneRuling (maxima t) noneRuled) n)
+  -- "root at 16.": of each kind of group, with T's maxima
+  pub empty-root-of-each-kind : (kind : ℕ) → kind < 4 →
       GivesDiagram (emptyRoot kind maximaT) 20 (counted 20)
       (20 ∷ 16 ∷ 2 ∷ 1 ∷ 1
       ∷ 0 ∷ 0 ∷ 0

@@ -8,7 +8,7 @@ use lib.ListN.{length}
 use Rattle.answer.specs.Answers.{refused, counted, ruled, zeros, padded}
 use Rattle.answer.specs.Refusals.{Answers}
 use Rattle.combining.specs.Ways.{notApplicable, permit, deny}
-use Rattle.table.specs.Layout.{count}
+use Rattle.table.specs.Layout.{version, count}
 use Rattle.table.specs.Tree.{parent, level, hasLevel}
 use Rattle.table.specs.Reading.{Accepted}
 use Rattle.ruling.specs.Forest.{childrenOf}
@@ -28,8 +28,8 @@ pub record Request6 : Type 0 where
   pub attach-refuses : (b e : List ℕ) (n : ℕ) →
       let t = attachedBytes b e in
       Answers (attachRefusals b e n) refused (zeros n) (counted (length t)) (padded t n) (attached b e n) (attachedTable b e n)
-  -- "a ninth level": exactly where the expansion has an eighth
-  pub ninth-level : (b e : List ℕ) → Accepted b → Accepted e → hasLevel (attachedBytes b e) 9 ≡ hasLevel e 8
+  -- "a ninth level": of tables of one version, exactly where the expansion has an eighth
+  pub ninth-level : (b e : List ℕ) → Accepted b → Accepted e → version b ≡ version e → hasLevel (attachedBytes b e) 9 ≡ hasLevel e 8
   -- "The answer counts the bytes written; lent bytes past them become 0": where the expansion can be fitted and the bytes lent are enough
   pub attach-counts : (b e : List ℕ) (n : ℕ) → Attaches b e → length (attachedBytes b e) ≤ n →
       let t = attachedBytes b e in
@@ -62,6 +62,9 @@ pub record Request6 : Type 0 where
       groupsTogether (attachedBytes b e) s others ≡ meaningWith (appliesToSome b s others) (appliesToSome e s others) b e
   pub attached-fails : (b e : List ℕ) → Attaches b e → (q : List ℕ) → targetHolds b q 0 ≡ false →
       groups (attachedBytes b e) q ≡ record { decision = notApplicable; cards = [] }
+  pub attached-fails-together : (b e : List ℕ) → Attaches b e → (s : ℕ) (others : List ℕ) →
+      ((k : ℕ) → k < mostSubjects → member s k ≡ true → targetHolds b (k ∷ others) 0 ≡ false) →
+      groupsTogether (attachedBytes b e) s others ≡ record { decision = notApplicable; cards = [] }
   -- of two tables of the convention profile it is one again where the base's root holds no rule, and else "a group holds rules and groups"
   pub attached-standard : (b e : List ℕ) → Attaches b e → Standard b → Standard e → holdsRule b 0 ≡ false → Standard (attachedBytes b e)
   pub attached-mixed : (b e : List ℕ) → Attaches b e → Standard b → Standard e → holdsRule b 0 ≡ true →

@@ -1,6 +1,7 @@
 pub mod Layout
 pub mod Entries
 pub mod Walk
+pub mod OneRuling
 pub mod LookUp
 pub mod Sound
 pub mod Decided

@@ -28,7 +28,7 @@ module _ (d q : List ℕ) (p f : ℕ) where
   unfolding ranges pathFrom
   ranges-end l = ap (λ (r : List ℕ). ranges (pathFrom d p r)) (none-left q f l)
 
--- three ranges take at most eight bytes each
+-- a range takes at most eight bytes
 pub ranges-short : (d : List ℕ) (s : Sound fields d) (q : List ℕ) (w : Within (maximum d) q) (k : length q ≡ fields) (n f p : ℕ) → f + n ≡ fields →
     EntryBefore fields d (used d) (nextLevel fields f) p → length (ranges (pathFrom d p (drop f q))) ≤ 8 * n
 ranges-short d s q w k zero f p i e = omega (arith, ap length (ranges-end d q p f (omega arith)))

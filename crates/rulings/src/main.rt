@@ -6,12 +6,11 @@ use listing::LINE;
 use listing::lines::fields_line;
 use listing::lines::refused_line;
 use listing::pages::fill;
+use table::layout::MOST_BYTES;
 ghost use Rattle.answer.specs.Fields.{fields};
 ghost use Rattle.diagram.specs.Sound.{Sound};
 
-// The most bytes that a table has: the header's 8, and 11 for each of 128 nodes. More input than that is refusal 1, at 0.
-const MOST_BYTES: usize = 1416;
-
+// More input than a table can have is refusal 1, at 0.
 fn main() {
     let mut input = [0u8; MOST_BYTES + 1];
     let n = io::read_full(0, &mut input);

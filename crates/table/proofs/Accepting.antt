@@ -11,9 +11,10 @@ use Rattle.answer.specs.Answers.{refused, counted}
 use Rattle.answer.specs.Refusals.{Refusal, upward, firstNumber, All, None, First}
 use Rattle.answer.specs.declared.Answer.{Answer}
 use Rattle.answer.proofs.Settling.{all-join, all-parts, all-upward, upward-all, all-first, first-in, first-after, first-upward, settled-first, settled-none, Numbered, number-none, number-first}
-use Rattle.table.specs.Layout.{count}
+use Rattle.table.specs.Layout.{version, count}
 use Rattle.table.specs.Conformance.{conforms}
 use Rattle.table.specs.Reading.{headerRefusals, nodeRefusals, tableRefusals, reading, Accepted}
+use Rattle.table.proofs.Header.{version-passed}
 
 module _ (t : List ℕ) where
   -- the header passes, and so does each node
@@ -32,6 +33,10 @@ module _ (t : List ℕ) where
 
   pub accepted-node : Accepted t → (i : ℕ) → i < count t → None (nodeRefusals t i)
   accepted-node c i l = upward-all (λ r. r .when ≡ false) (nodeRefusals t) (count t) 0 (parts c .1) i (omega arith) (omega arith)
+
+  -- one version is accepted
+  pub accepted-version : Accepted t → version t ≡ 1
+  accepted-version c = version-passed t (accepted-header c .1 .0)
 
   -- where the number found in the header is 0, or that of a node, nothing is refused there
 

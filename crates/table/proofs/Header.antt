@@ -34,13 +34,13 @@ module _ (t : List ℕ) where
       let p = count-parts (e .1 .1 .0) in
       record { long = length-passed t (e .0); records = p .2; some = p .0; few = p .1 }
 
-  -- and a header of which this holds, with the length and the version that it says, is refused nothing
-  pub headed-passes : Headed t → length t ≡ bytesAfter t + 2 → version t ≡ 1 → None (headerRefusals t)
-  unfolding lengthFault versionFault countFault
+  -- and a header of which this holds, with the length that it says and a version that is taken, is refused nothing
+  pub headed-passes : Headed t → length t ≡ bytesAfter t + 2 → versionFault t ≡ false → None (headerRefusals t)
+  unfolding lengthFault countFault
   headed-passes h long e = (
     ap₂ (λ a b. a || not b) (le-ltb (length t) (header t) (h .long)) (eq-eqb (length t) (bytesAfter t + 2) long),
     (
-      ap not (eq-eqb (version t) 1 e),
+      e,
       (
         ap₂ (λ a b. a || not b)
             (ap₂ (λ a b. a || b) (ne-eqb (count t) 0 (λ z. omega (arith, h .some))) (le-ltb 128 (count t) (h .few)))
@@ -50,7 +50,12 @@ module _ (t : List ℕ) where
     ),
   )
 
-  -- the version of such a table
-  pub headed-version : None (headerRefusals t) → version t ≡ 1
+  -- the version of a table to which 2 does not apply
+  pub version-passed : versionFault t ≡ false → version t ≡ 1
   unfolding versionFault
-  headed-version e = eqb-true (version t) 1 (not-false _ (e .1 .0))
+  version-passed e = eqb-true (version t) 1 (not-false _ e)
+
+-- 2 goes by the version alone
+pub version-fault-same : (t u : List ℕ) → version t ≡ version u → versionFault t ≡ versionFault u
+unfolding versionFault
+version-fault-same t u e = ap (λ v. not (eqb v 1)) e

@@ -12,5 +12,7 @@ pub mod AcceptedIsWellFormed
 pub mod ParentsAndSpansAgree
 pub mod Maxima
 pub mod RangesReadBack
+pub mod SameBytes
 pub mod NumbersWritten
+pub mod Joined
 pub mod Computing

@@ -38,13 +38,17 @@ valuesFrom f i (suc k) = f i ∷ valuesFrom f (i + 1) k
 unfoldable pub maxima : List ℕ → List ℕ
 maxima t = valuesFrom (maximum t) 0 fields
 
--- "6-7 | number of nodes", after the maxima
+-- "6-7 | number of nodes", after the maxima: where it stands
+unfoldable pub countPlace : List ℕ → ℕ
+countPlace t = 3 + fields
+
+-- the number of nodes
 unfoldable pub count : List ℕ → ℕ
-count t = word t (3 + fields)
+count t = word t (countPlace t)
 
 -- bytes 0 to 7 of the table above, before the first record
 unfoldable pub header : List ℕ → ℕ
-header t = 5 + fields
+header t = countPlace t + 2
 
 -- "A record: kind (1 byte), span (2), card (2), then low and high of who, of where, of deed (1 byte each, both ends included)"
 unfoldable pub recordSize : List ℕ → ℕ

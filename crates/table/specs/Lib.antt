@@ -6,3 +6,4 @@ pub mod WellFormed
 pub mod Open
 pub mod Conformance
 pub mod Writing
+pub mod SameNode

@@ -3,8 +3,7 @@
 use mathlib.Core.List.{List}
 use Prim.Native.Nat.{ℕ, _+_, _/_, _%_}
 use lib.ListN.{set}
-use Rattle.answer.specs.Fields.{fields}
-use Rattle.table.specs.Layout.{start}
+use Rattle.table.specs.Layout.{countPlace, start}
 
 -- "numbers of two bytes are big-endian": the table with number n in the two bytes at p
 unfoldable pub withWord : List ℕ → ℕ → ℕ → List ℕ
@@ -16,7 +15,7 @@ withBytesAfter t n = withWord t 0 n
 
 -- "6-7 | number of nodes"
 abbrev pub withCount : List ℕ → ℕ → List ℕ
-withCount t n = withWord t (3 + fields) n
+withCount t n = withWord t (countPlace t) n
 
 -- "span (2)" of node i
 abbrev pub withSpan : List ℕ → ℕ → ℕ → List ℕ

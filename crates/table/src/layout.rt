@@ -4,7 +4,7 @@ ghost use mathlib.Core.Path.{_≡_};
 ghost use Prim.Native.Nat.{_+_, _*_, _^_, _<_};
 ghost use lib.ListN.{length};
 ghost use Rattle.answer.specs.Fields.{fields};
-ghost use Rattle.table.specs.Layout.{word, maximum, maxima, count, header, start, recordByte, recordWord, kind, span, card, low, high, HeaderHeld, NodeHeld};
+ghost use Rattle.table.specs.Layout.{word, maximum, maxima, countPlace, count, header, start, recordByte, recordWord, kind, span, card, low, high, HeaderHeld, NodeHeld};
 ghost use Rattle.table.specs.Ranges.{rangesWord, rangeByte, lowOf, highOf, ReadsBack};
 
 // The header: bytes after the first two (2), version (1), a maximum for each field, number of nodes (2).
@@ -12,7 +12,7 @@ pub const VERSION: usize = 2;
 
 const MAXIMA: usize = 3;
 
-pub(crate) const COUNT: usize = MAXIMA + FIELDS;
+const COUNT: usize = MAXIMA + FIELDS;
 
 const HEADER: usize = COUNT + 2;
 
@@ -29,6 +29,9 @@ const RECORD: usize = RANGES + 2 * FIELDS;
 
 // How many nodes a table may have.
 pub const NODES: usize = 128;
+
+// The most bytes that a table has.
+pub const MOST_BYTES: usize = HEADER + RECORD * NODES;
 
 // How many levels a tree may have.
 pub const LEVELS: usize = 8;
@@ -63,12 +66,21 @@ pub fn start_of(table: &[u8], i: usize) -> usize
     HEADER + RECORD * i
 }
 
+// Where the number of nodes stands.
+pub(crate) fn count_place(table: &[u8]) -> usize
+    requires { ⌜ HeaderHeld (now table) ⌝ }
+    ensures { λ r. ⌜ r ≡ countPlace (now (table .entry)) ⌝ }
+{
+    COUNT
+}
+
 // How many nodes the table says it has.
 pub fn count_at(table: &[u8]) -> usize
     requires { ⌜ HeaderHeld (now table) ⌝ }
     ensures { λ r. ⌜ (r ≡ count (now (table .entry))) × (r < 65536) ⌝ }
 {
-    word_at(table, COUNT) as usize
+    let place = count_place(table);
+    word_at(table, place) as usize
 }
 
 // The largest value of a field.

@@ -1,6 +1,6 @@
 // Writing the numbers of two bytes that a table's header and its records hold.
-use crate::layout::COUNT;
 use crate::layout::SPAN;
+use crate::layout::count_place;
 use crate::layout::start_of;
 ghost use mathlib.Core.Path.{_≡_};
 ghost use Prim.Native.Nat.{_+_, _<_};
@@ -30,7 +30,8 @@ pub fn put_count(table: &mut [u8], nodes: u16)
     requires { ⌜ HeaderHeld (now table) ⌝ }
     ensures { λ _. ⌜ now (table .exit) ≡ withCount (now (table .entry)) nodes ⌝ }
 {
-    put_word(table, COUNT, nodes);
+    let place = count_place(table);
+    put_word(table, place, nodes);
 }
 
 // Node i's span.

@@ -11,6 +11,7 @@ use Rattle.table.specs.Tree.{isRule}
 use Rattle.table.specs.WellFormed.{WellFormed}
 use Rattle.table.proofs.Places.{header-held, node-held}
 use Rattle.attaching.specs.Attached.{headersDiffer, fitRefusals}
+use Rattle.attaching.proofs.FitFaults.{versions-same}
 use Rattle.attaching.proofs.faults.fit_fault.Statement.{statement}
 use Rattle.attaching.proofs.faults.fit_fault.Tie as tie
 
@@ -48,6 +49,9 @@ headers-differ-requires : tie.Need-headers-differ-requires
 headers-differ-requires c κs =
     let s = tables c in (header-held (base s) (formed s .0 .records), header-held (expansion s) (formed s .1 .records))
 
+too-large-requires : tie.Need-too-large-requires
+too-large-requires c κs = let s = tables (group c) in (formed s, versions-same (base s) (expansion s) (no-difference c))
+
 returns : tie.Need-returns
 returns c =
     let s = c .before .before in
@@ -81,4 +85,4 @@ pub fit-fault-spec : {M : Type 1} → statement M
 fit-fault-spec =
     tie.close
     (tie.spec
-    rule-at-requires headers-differ-requires (λ c κs. search needs) returns returns-2 returns-3 returns-4)
+    rule-at-requires headers-differ-requires too-large-requires returns returns-2 returns-3 returns-4)

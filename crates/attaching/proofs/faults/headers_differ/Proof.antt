@@ -9,7 +9,7 @@ use borrow.Author.Needs.{needs}
 use Rattle.answer.specs.Below.{someBelow}
 use Rattle.answer.specs.Fields.{fields}
 use Rattle.table.specs.Layout.{version, HeaderHeld}
-use Rattle.table.proofs.Places.{header-places}
+use Rattle.table.proofs.Places.{version-there}
 use Rattle.attaching.proofs.FitFaults.{differs, version-differs, maximum-differs, headers-same, same-more}
 use Rattle.attaching.proofs.faults.headers_differ.Statement.{statement}
 use Rattle.attaching.proofs.faults.headers_differ.Tie as tie
@@ -33,10 +33,10 @@ module _ (c : tie.After-shared-slice-known2 Inv-loop μ-loop) where
   headed = c .before .before .pre
 
 shared-slice-read-if1 : tie.Need-shared-slice-read-if1 Inv-loop μ-loop
-shared-slice-read-if1 c = let s = c .before in omega (arith, header-places (base s) (headed s .0))
+shared-slice-read-if1 c = let s = c .before in omega (arith, version-there (base s) (headed s .0))
 
 shared-slice-read-if1-2 : tie.Need-shared-slice-read-if1-2 Inv-loop μ-loop
-shared-slice-read-if1-2 c = let s = c .before .before in omega (arith, header-places (expansion s) (headed s .1))
+shared-slice-read-if1-2 c = let s = c .before .before in omega (arith, version-there (expansion s) (headed s .1))
 
 returns : tie.Need-returns Inv-loop μ-loop
 returns c = let s = c .before .before .before in version-differs (base s) (expansion s) (c .if1 .taken)

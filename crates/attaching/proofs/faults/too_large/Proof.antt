@@ -1,10 +1,11 @@
 -- `attaching::faults::too_large` meets its contract: by the nodes of both tables and the levels of the expansion.
 -- Assumes nothing.
-use mathlib.Core.Path.{_∙_}
+use mathlib.Core.Path.{_≡_, _∙_}
 use mathlib.Core.List.{List}
 use Prim.Native.Nat.{ℕ}
 use native.Mathlib.Omega.{arith}
 use borrow.Author.Needs.{needs}
+use Rattle.table.specs.Layout.{version}
 use Rattle.table.specs.WellFormed.{WellFormed}
 use Rattle.table.proofs.Places.{header-held}
 use Rattle.attaching.proofs.FitFaults.{too-many, by-levels}
@@ -20,7 +21,10 @@ module _ (c : tie.After-shared-slice-known2) where
   expansion = c .before .before .args .expansion .now
 
   abbrev formed : WellFormed base × WellFormed expansion
-  formed = c .before .before .pre
+  formed = c .before .before .pre .0
+
+  abbrev same : version base ≡ version expansion
+  same = c .before .before .pre .1
 
 count-at-requires : tie.Need-count-at-requires
 count-at-requires c κs = header-held (base c) (formed c .0 .records)
@@ -32,7 +36,7 @@ returns : tie.Need-returns
 returns c =
     let n = c .before in
     let s = n .before .before in
-    too-many (base s) (expansion s) (formed s .0) (formed s .1)
+    too-many (base s) (expansion s) (formed s .0) (formed s .1) (same s)
     (omega (arith, n .before .count-at .ensures .0, n .count-at2 .ensures .0, c .if1 .taken))
 
 returns-2 : tie.Need-returns-2
@@ -40,7 +44,7 @@ returns-2 c =
     let n = c .before .before in
     let s = n .before .before in
     c .has-last-level .ensures
-    ∙ by-levels (base s) (expansion s) (formed s .0) (formed s .1)
+    ∙ by-levels (base s) (expansion s) (formed s .0) (formed s .1) (same s)
     (omega (arith, n .before .count-at .ensures .0, n .count-at2 .ensures .0, c .before .if1 .left))
 
 pub too-large-spec : {M : Type 1} → statement M

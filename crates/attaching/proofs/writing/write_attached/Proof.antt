@@ -6,13 +6,13 @@ use Prim.Native.Nat.{ℕ, _+_, _-_, _≤_}
 use native.Mathlib.Omega.{arith}
 use borrow.Author.Needs.{needs}
 use lib.ListN.{length}
-use Rattle.table.specs.Layout.{HeaderHeld, NodeHeld}
+use Rattle.answer.specs.Answers.{zeros}
 use Rattle.table.specs.Writing.{withBytesAfter, withCount, withSpan}
 use Rattle.table.specs.WellFormed.{WellFormed}
 use Rattle.table.proofs.Places.{header-held}
 use Rattle.attaching.specs.Attached.{joined, nodes}
-use Rattle.attaching.proofs.BytesFitted.{rest, length-attached, root-there}
-use Rattle.attaching.proofs.Copied.{all-held, written-all}
+use Rattle.attaching.proofs.BytesFitted.{rest, length-attached, joined-long}
+use Rattle.attaching.proofs.Copied.{copied-there, long-there, root-there, written-all}
 use Rattle.attaching.proofs.writing.write_attached.Statement.{statement}
 use Rattle.attaching.proofs.writing.write_attached.Tie as tie
 
@@ -32,10 +32,6 @@ module _ (c : tie.After-attached-size) where
 
   fits : length (joined base expansion) ≤ length lent
   fits = omega (arith, length-attached base expansion, c .before .before .before .before .pre .1 .1)
-
-  -- a table that is as long as what is lent has its header and its root
-  held : (t : List ℕ) → length t ≡ length lent → HeaderHeld t × NodeHeld t 0
-  held t e = all-held base expansion (formed .0) (formed .1) t (omega (arith, fits, e))
 
 count-at-requires : tie.Need-count-at-requires
 count-at-requires c κs = header-held (base c) (formed c .0 .records)
@@ -62,8 +58,8 @@ module _ (c : tie.After-join) where
   abbrev copied : List ℕ
   copied = c .join .last .1 .1 .0
 
-  as-long : length copied ≡ length (lent (sized known))
-  as-long = c .join .kept .1 .1 .0
+  zeroed : lent (sized known) ≡ zeros (length (lent (sized known)))
+  zeroed = sized known .before .before .before .before .pre .1 .0
 
   length-known : sized known .attached-size .result - 2 ≡ rest (base (sized known)) (expansion (sized known))
   length-known =
@@ -76,33 +72,52 @@ sub-put-bytes-after c =
       arith,
       s .attached-size .ensures .0,
       length-attached (base s) (expansion s),
-      root-there (base s) (expansion s) (formed s .0) (formed s .1),
+      joined-long (base s) (expansion s) (formed s .0) (formed s .1),
     )
 
 put-bytes-after-requires : tie.Need-put-bytes-after-requires
-put-bytes-after-requires c κs = let j = c .before .before .before in held (sized (known j)) (copied j) (as-long j) .0
+put-bytes-after-requires c κs =
+    let j = c .before .before .before in
+    let s = sized (known j) in
+    copied-there (base s) (expansion s) (formed s .0) (formed s .1) (length (lent s)) (fits s) (lent s) (copied j) (zeroed j) (j .join .ensures)
 
 -- their length is written
 module _ (c : tie.After-put-bytes-after) where
   abbrev joins : tie.After-join
   joins = c .before .before .before .before
 
-  lengths : length (c .put-bytes-after .last .0) ≡ length (lent (sized (known joins)))
-  lengths = c .put-bytes-after .kept .0 ∙ as-long joins
+  abbrev long : List ℕ
+  long = c .put-bytes-after .last .0
+
+  long-is : long ≡ withBytesAfter (copied joins) (rest (base (sized (known joins))) (expansion (sized (known joins))))
+  long-is = c .put-bytes-after .ensures ∙ ap (withBytesAfter (copied joins)) (length-known joins)
 
 put-count-requires : tie.Need-put-count-requires
-put-count-requires c κs = let p = c .before .before .before in held (sized (known (joins p))) (p .put-bytes-after .last .0) (lengths p) .0
+put-count-requires c κs =
+    let m = c .before .before .before in
+    let j = joins m in
+    let s = sized (known j) in
+    long-there (base s) (expansion s) (formed s .0) (formed s .1) (length (lent s)) (fits s) (lent s) (copied j) (zeroed j) (j .join .ensures) (long m) (long-is m)
 
 -- and their count
 module _ (c : tie.After-put-count) where
   abbrev measured : tie.After-put-bytes-after
   measured = c .before .before .before .before
 
+  abbrev numbered : List ℕ
+  numbered = c .put-count .last .0
+
+  numbered-is : numbered ≡ withCount (long measured) (nodes (base (sized (known (joins measured)))) (expansion (sized (known (joins measured)))))
+  numbered-is = c .put-count .ensures ∙ ap (withCount (long measured)) (counted (known (joins measured)))
+
 put-span-requires : tie.Need-put-span-requires
 put-span-requires c κs =
     let n = c .before .before .before in
     let m = measured n in
-    held (sized (known (joins m))) (n .put-count .last .0) (n .put-count .kept .0 ∙ lengths m) .1
+    let j = joins m in
+    let s = sized (known j) in
+    root-there (base s) (expansion s) (formed s .0) (formed s .1) (length (lent s)) (fits s) (lent s) (copied j) (zeroed j) (j .join .ensures) (long m) (long-is m)
+    (numbered n) (numbered-is n)
 
 returns : tie.Need-returns
 returns c =
@@ -110,13 +125,10 @@ returns c =
     let n = p .before .before .before .before in
     let m = measured n in
     let j = joins m in
-    let k = known j in
-    let s = sized k in
-    written-all (base s) (expansion s) (formed s .0) (formed s .1) (length (lent s)) (fits s) (lent s) (copied j) (m .put-bytes-after .last .0)
-    (n .put-count .last .0) (p .put-span .last .0) (s .before .before .before .before .pre .1 .0) (j .join .ensures)
-    (m .put-bytes-after .ensures ∙ ap (withBytesAfter (copied j)) (length-known j))
-    (n .put-count .ensures ∙ ap (withCount (m .put-bytes-after .last .0)) (counted k))
-    (p .put-span .ensures ∙ ap (withSpan (n .put-count .last .0) 0) (counted k))
+    let s = sized (known j) in
+    written-all (base s) (expansion s) (formed s .0) (formed s .1) (length (lent s)) (fits s) (lent s) (copied j) (zeroed j) (j .join .ensures) (long m) (long-is m)
+    (numbered n) (numbered-is n) (p .put-span .last .0)
+    (p .put-span .ensures ∙ ap (withSpan (numbered n) 0) (counted (known j)))
 
 pub write-attached-spec : {M : Type 1} → statement M
 write-attached-spec =

@@ -1,12 +1,12 @@
 -- `table::layout::header_size` meets its contract: the layout gives it.
 -- Assumes nothing.
 use mathlib.Core.Path.{refl}
-use Rattle.table.specs.Layout.{header}
+use Rattle.table.specs.Layout.{countPlace, header}
 use Rattle.table.proofs.layout.header_size.Statement.{statement}
 use Rattle.table.proofs.layout.header_size.Tie as tie
 
 returns : tie.Need-returns
-unfolding header
+unfolding countPlace header
 returns c = refl
 
 pub header-size-spec : {M : Type 1} → statement M

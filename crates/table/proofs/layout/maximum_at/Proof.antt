@@ -3,13 +3,14 @@
 use mathlib.Core.Path.{refl}
 use native.Mathlib.Omega.{arith}
 use borrow.Author.Needs.{needs}
-use Rattle.table.specs.Layout.{maximum}
-use Rattle.table.proofs.Places.{header-places}
+use Rattle.table.specs.Layout.{countPlace, maximum}
+use Rattle.table.proofs.Places.{count-there}
 use Rattle.table.proofs.layout.maximum_at.Statement.{statement}
 use Rattle.table.proofs.layout.maximum_at.Tie as tie
 
 shared-slice-read-result : tie.Need-shared-slice-read-result
-shared-slice-read-result c = omega (arith, header-places (c .before .args .table .now) (c .before .pre .0))
+unfolding countPlace
+shared-slice-read-result c = omega (arith, count-there (c .before .args .table .now) (c .before .pre .0))
 
 returns : tie.Need-returns
 unfolding maximum

@@ -2,20 +2,20 @@
 -- Assumes nothing.
 use mathlib.Core.Path.{refl}
 use native.Mathlib.Omega.{arith}
-use Rattle.table.specs.Layout.{header, recordSize, start}
+use Rattle.table.specs.Layout.{countPlace, header, recordSize, start}
 use Rattle.table.proofs.layout.start_of.Statement.{statement}
 use Rattle.table.proofs.layout.start_of.Tie as tie
 
 mul-result : tie.Need-mul-result
-unfolding start header recordSize
+unfolding countPlace header recordSize start
 mul-result c = omega arith
 
 add-result : tie.Need-add-result
-unfolding start header recordSize
+unfolding countPlace header recordSize start
 add-result c = omega arith
 
 returns : tie.Need-returns
-unfolding start header recordSize
+unfolding countPlace header recordSize start
 returns c = refl
 
 pub start-of-spec : {M : Type 1} → statement M

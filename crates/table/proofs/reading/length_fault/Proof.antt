@@ -2,13 +2,13 @@
 -- Assumes nothing.
 use native.Mathlib.Omega.{arith}
 use borrow.Author.Needs.{needs}
-use Rattle.table.proofs.Places.{header-places}
+use Rattle.table.proofs.Places.{version-there}
 use Rattle.table.proofs.Faults.{length-short, length-other}
 use Rattle.table.proofs.reading.length_fault.Statement.{statement}
 use Rattle.table.proofs.reading.length_fault.Tie as tie
 
 word-at-requires : tie.Need-word-at-requires
-word-at-requires c κs = omega (arith, header-places (c .before .before .before .args .table .now) (omega arith))
+word-at-requires c κs = omega (arith, version-there (c .before .before .before .args .table .now) (omega arith))
 
 returns : tie.Need-returns
 returns c = length-short (c .before .before .before .args .table .now) (omega arith)

@@ -3,12 +3,12 @@
 use mathlib.Core.Path.{refl}
 use native.Mathlib.Omega.{arith}
 use Rattle.table.specs.Reading.{versionFault}
-use Rattle.table.proofs.Places.{header-places}
+use Rattle.table.proofs.Places.{version-there}
 use Rattle.table.proofs.reading.version_fault.Statement.{statement}
 use Rattle.table.proofs.reading.version_fault.Tie as tie
 
 shared-slice-read-result : tie.Need-shared-slice-read-result
-shared-slice-read-result c = omega (arith, header-places (c .before .args .table .now) (c .before .pre))
+shared-slice-read-result c = omega (arith, version-there (c .before .args .table .now) (c .before .pre))
 
 returns : tie.Need-returns
 unfolding versionFault
