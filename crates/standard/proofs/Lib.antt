@@ -6,3 +6,4 @@ pub mod ConformingIsStandard
 pub mod WaysAsPrinted
 pub mod GroupsAsPrinted
 pub mod EqualAnswers
+pub mod AlgorithmCasesHold
