@@ -63,6 +63,8 @@ pub type Ways = [[u8; 4]; 27];
 
 // The four ways. Under only one applicable the first child that counts gives the decision, any further one is too many, and one that does not
 // count changes nothing. Deny overrides has no row for a running indeterminate, which it never has.
+// The rows for a child that does not count, 4 to 7 and 19 to 22, are never read: both callers of `take` take in children that count alone. A child
+// that does not apply, and so does not count, they step over, which is proved to change nothing (`over-skip` of ruling/proofs/Decisions).
 const COMBINING: Ways = [
     // first applicable
     [N, P, D, I], // 0: running N

@@ -31,18 +31,20 @@ fn decide(table: &[u8], ways: &Ways, applying: Set, i: usize) -> u8
     ensures { λ r. ⌜ r ≡ decision (has applying) (now (table .entry)) i ⌝ }
 {
     let kind = kind_at(table, i);
-    if Kind::PERMIT_RULE <= kind {
-        return effect_of(kind);
+    match kind {
+        Kind::FIRST_APPLICABLE..=Kind::DENY_OVERRIDES => {
+            let end = i + span_at(table, i);
+            let mut running = Running::start(kind);
+            let mut child = applying.next(i + 1);
+            while child < end {
+                let decision = decide(table, ways, applying, child);
+                running = running.take(ways, decision, true);
+                child = applying.next(child + span_at(table, child));
+            }
+            running.decision
+        }
+        _ => effect_of(kind),
     }
-    let end = i + span_at(table, i);
-    let mut running = Running::start(kind);
-    let mut child = applying.next(i + 1);
-    while child < end {
-        let decision = decide(table, ways, applying, child);
-        running = running.take(ways, decision, true);
-        child = applying.next(child + span_at(table, child));
-    }
-    running.decision
 }
 
 // The decision of the root.
@@ -69,9 +71,13 @@ fn gather(table: &[u8], applying: Set, list: &mut [u16]) -> usize
     let mut stored = 0;
     let mut i = applying.next(0);
     while i < count {
-        if Kind::PERMIT_RULE <= kind_at(table, i) {
-            put(list, stored, card_at(table, i));
-            stored += 1;
+        let kind = kind_at(table, i);
+        match kind {
+            Kind::FIRST_APPLICABLE..=Kind::DENY_OVERRIDES => {}
+            _ => {
+                put(list, stored, card_at(table, i));
+                stored += 1;
+            }
         }
         i = applying.next(i + 1);
     }

@@ -16,6 +16,7 @@ use Rattle.standard.specs.RulingStandard.{rulingStandardRefusals}
 use Rattle.standard.proofs.Accepting.{standard-accepted}
 use Rattle.standard.proofs.EqualAnswers.{equal-reading, equal-ruling}
 use Rattle.standard.proofs.GroupsAsPrinted.{rules-as-printed, groups-as-printed, empty-as-printed}
+use Rattle.standard.proofs.AlgorithmCasesHold.{algorithm-cases-hold}
 use Rattle.standard.proofs.Computing.{profile-computes}
 use Rattle.demands.specs.Words.{nothing}
 use Rattle.demands.specs.Request3.{Request3, Request3Cases}
@@ -40,6 +41,7 @@ request-3 = record {
 pub request-3-cases : Request3Cases
 unfolding tables-compute profile-computes
 request-3-cases = record {
+  algorithms = algorithm-cases-hold;
   t-mixed = refl;
   t-mixed-ruled = (refl, refl);
   rule-in-only-one = refl;

@@ -22,6 +22,7 @@ use Rattle.ruling.specs.Ruling.{groupsTogether, ruling, ruledList}
 use Rattle.standard.specs.Profile.{holdsRule, holdsGroup, standardRefusals, Standard, readingStandard}
 use Rattle.standard.specs.RulingStandard.{rulingStandardRefusals, rulingStandard, ruledListStandard}
 use Rattle.standard.specs.AppendixC.{ruleCombining, policyCombining}
+use Rattle.standard.specs.AlgorithmCases.{AlgorithmCases}
 use Rattle.standard.specs.AsPrinted.{rulesOf, policiesOf}
 use Rattle.demands.specs.Words.{nothing}
 use Rattle.demands.specs.Tables.{onePlace, tableT, overOnlyOne, emptyRoot, ruleRoot, twoFaults, groupsOfRules}
@@ -54,6 +55,8 @@ pub record Request3 : Type 0 where
   pub one-closed : (t q : List ℕ) → Accepted t → Closed t (applies t q)
 
 pub record Request3Cases : Type 0 where
+  -- "appendix C's rule-combining text", "its policy-combining text": clause by clause, also where no table reaches them
+  pub algorithms : AlgorithmCases
   -- "14 when a group holds rules and groups", "with the lowest such group's node as place": T's root does
   pub t-mixed : readingStandard (tableT 3) ≡ refused 14 0
   pub t-mixed-ruled : GivesStandard (tableT 3) (only 0) (otherValues 0 0) 2 (refused 14 0) (0 ∷ 0 ∷ [])

@@ -6,4 +6,5 @@ pub mod ConformingIsStandard
 pub mod WaysAsPrinted
 pub mod GroupsAsPrinted
 pub mod EqualAnswers
+pub mod AlgorithmCasesHold
 pub mod Computing

@@ -114,11 +114,10 @@ module _ (a : ℕ → Bool) (t : List ℕ) where
 
     policies-only-one : policyOnlyOneApplicable ps ≡ onlyOneApplicable (asChildren js)
     policies-only-one =
-        ap (λ b. cond b indeterminate (byMatched (fromMatched ps)))
+        rw
         (none-of (asPolicy a t) (λ c. c .gives) (λ j. refl) isUntold js
         (each-all (λ j. isUntold (asPolicy a t j) ≡ false) (λ j. never-untold (a j) (decision a t j)) js))
-        ∙ by-matched (fromMatched ps)
-        ∙ ap sole (sym (counting-as js))
+        (by-matched (fromMatched ps) ∙ ap sole (sym (counting-as js)))
 
     policies-permit : policyPermitOverrides ps ≡ permitOverrides ds
     policies-permit =

@@ -3,3 +3,4 @@ pub mod RulingStandard
 pub mod AppendixC
 pub mod AsPrinted
 pub mod Pass
+pub mod AlgorithmCases

@@ -39,8 +39,6 @@ abbrev decide-claims : ℕ → decide-lts.Claims
 decide-claims t = (
   kind-at-reads.Asked,
   kind-at-reads.Learnt,
-  effect-of-reads.Asked,
-  effect-of-reads.Learnt,
   span-at-reads.Asked,
   span-at-reads.Learnt,
   start-reads.Asked,
@@ -51,6 +49,8 @@ decide-claims t = (
   decide.Post,
   take-reads.Asked,
   take-reads.Learnt,
+  effect-of-reads.Asked,
+  effect-of-reads.Learnt,
 )
 
 abbrev decide-Inv-loop : decide-lts.InvT-loop
@@ -120,16 +120,6 @@ module _ {t : ℕ} (c : Spanned t) where
 decide-kind-at-requires : (t : ℕ) → decide-lts.Need-kind-at-requires (decide-claims t) (decide-at t) decide.Post decide-Inv-loop decide-μ-loop
 decide-kind-at-requires t c κs = let s = c .before in held (nodes s) (well-formed s) (s .args .i) (given s .0)
 
-decide-effect-of-requires : (t : ℕ) → decide-lts.Need-effect-of-requires (decide-claims t) (decide-at t) decide.Post decide-Inv-loop decide-μ-loop
-decide-effect-of-requires t c κs = tt
-
-decide-returns : (t : ℕ) → decide-lts.Need-returns (decide-claims t) (decide-at t) decide.Post decide-Inv-loop decide-μ-loop
-decide-returns t c =
-    let k = c .before .before in
-    let s = known-start k in
-    ruled-rule (applies s) (nodes s) (s .args .i) (k .kind-at .result) (c .effect-of .result) (given s .1) (k .kind-at .ensures) (c .before .if1 .taken)
-    (c .effect-of .ensures)
-
 decide-span-at-requires : (t : ℕ) → decide-lts.Need-span-at-requires (decide-claims t) (decide-at t) decide.Post decide-Inv-loop decide-μ-loop
 decide-span-at-requires t c κs = let s = known-start (c .before) in held (nodes s) (well-formed s) (s .args .i) (given s .0)
 
@@ -137,7 +127,7 @@ decide-add-end : (t : ℕ) → decide-lts.Need-add-end (decide-claims t) (decide
 decide-add-end t c = omega (arith, well-formed (known-start (c .before .before)) .few)
 
 decide-start-requires : (t : ℕ) → decide-lts.Need-start-requires (decide-claims t) (decide-at t) decide.Post decide-Inv-loop decide-μ-loop
-decide-start-requires t c κs = c .before .if1 .left
+decide-start-requires t c κs = c .before .if1 .taken
 
 decide-add-next : (t : ℕ) → decide-lts.Need-add-next (decide-claims t) (decide-at t) decide.Post decide-Inv-loop decide-μ-loop
 decide-add-next t c =
@@ -152,7 +142,7 @@ decide-loop-holds t c =
     let spanned = c .before .before in
     let k = spanned .before .before in
     let s = known-start k in
-    before-first (well-formed s) (closed s) (given s) (k .kind-at .ensures) (spanned .before .if1 .left) (spanned .span-at .ensures .0) refl
+    before-first (well-formed s) (closed s) (given s) (k .kind-at .ensures) (spanned .before .if1 .taken) (spanned .span-at .ensures .0) refl
     (c .before .start .ensures) (c .next .ensures)
 
 decide-decide-requires : (t : ℕ) → decide-lts.Need-decide-requires (decide-claims t) (decide-at t) decide.Post decide-Inv-loop decide-μ-loop
@@ -189,10 +179,20 @@ decide-loop-again t c =
     before-next (well-formed (start l)) (closed (start l)) (l .before .loop .inv) (l .loop-test .taken) (taken .before .decide .ensures)
     (taken .take .ensures) (c .before .span-at2 .ensures .0) (c .next2 .ensures)
 
-decide-returns-2 : (t : ℕ) → decide-lts.Need-returns-2 (decide-claims t) (decide-at t) decide.Post decide-Inv-loop decide-μ-loop
-decide-returns-2 t c =
+decide-effect-of-requires : (t : ℕ) → decide-lts.Need-effect-of-requires (decide-claims t) (decide-at t) decide.Post decide-Inv-loop decide-μ-loop
+decide-effect-of-requires t c κs = tt
+
+decide-returns : (t : ℕ) → decide-lts.Need-returns (decide-claims t) (decide-at t) decide.Post decide-Inv-loop decide-μ-loop
+decide-returns t c =
     let s : Start t = c .before .before .before .before .before .before .before .before in
     before-end (well-formed s) (closed s) (c .before .loop .inv) (c .loop-test .left)
+
+decide-returns-2 : (t : ℕ) → decide-lts.Need-returns-2 (decide-claims t) (decide-at t) decide.Post decide-Inv-loop decide-μ-loop
+decide-returns-2 t c =
+    let k = c .before .before in
+    let s = known-start k in
+    ruled-rule (applies s) (nodes s) (s .args .i) (k .kind-at .result) (c .effect-of .result) (given s .1) (k .kind-at .ensures) (c .before .if1 .left)
+    (c .effect-of .ensures)
 
 pub +decide-spec : {M : Type 1} → statement M
 +decide-spec = close μ-decide λ t. decide-lts.spec (decide-claims t)
@@ -201,8 +201,6 @@ pub +decide-spec : {M : Type 1} → statement M
     decide-Inv-loop
     decide-μ-loop
     (decide-kind-at-requires t)
-    (decide-effect-of-requires t)
-    (decide-returns t)
     (decide-span-at-requires t)
     (decide-add-end t)
     (decide-start-requires t)
@@ -216,4 +214,6 @@ pub +decide-spec : {M : Type 1} → statement M
     (decide-next-requires-2 t)
     (decide-loop-less t)
     (decide-loop-again t)
+    (decide-effect-of-requires t)
+    (decide-returns t)
     (decide-returns-2 t)
