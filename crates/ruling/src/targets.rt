@@ -87,7 +87,7 @@ fn others_hold_from(ranges: u64, others: &[u16; OTHERS]) -> bool
     true
 }
 
-// The members of a set for which the target holds that is tested from a word of ranges, where the other fields have these values.
+// The members of a set for which a target holds, tested from the word of its ranges, where the other fields have these values.
 fn members_from(ranges: u64, members: u64, others: &[u16; OTHERS]) -> u64
     ensures { λ r. ⌜ ((k : ℕ) → member r k ≡ member members k && targetHoldsFrom ranges (k ∷ now (others .entry))) ⌝ }
 {
@@ -106,7 +106,8 @@ pub(crate) fn members_left(table: &[u8], members: u64, others: &[u16; OTHERS], i
     members_from(ranges, members, others)
 }
 
-// Refusal 13: whether a set has no subject, or one over the maximum. The set is walked, from member to next member, until one is over it.
+// Refusal 13: whether a set has no subject, or one over the maximum. The set is walked, each next member the least of those left, until one
+// is over the maximum or none is left.
 pub(crate) fn subjects_fault(subjects: u64, maximum: u16) -> bool
     ensures { λ r. ⌜ r ≡ subjectsFault maximum subjects ⌝ }
 {
