@@ -1,8 +1,8 @@
 -- Bytes that start with a table, and bytes to which a part of another table of the same version was joined: the header and the nodes that they hold.
 -- Assumes nothing.
-use mathlib.Core.Path.{_≡_, sym, ap, _∙_}
+use mathlib.Core.Path.{_≡_, ap, _∙_}
 use mathlib.Core.List.{List, _++_}
-use Prim.Native.Nat.{ℕ, _+_, _-_, _≤_, _<_}
+use Prim.Native.Nat.{ℕ, _+_, _-_, _≤_}
 use native.Mathlib.Omega.{arith}
 use lib.ListN.{length, drop, length-append, length-drop, List·getD-append}
 use lib.Seq.{getD-append-add, getD-drop}
@@ -53,7 +53,7 @@ module _ (t more : List ℕ) where
         ap (λ s. withWord u (s + 1) n) same-start
         ∙ with-append t (start t i + 1) n more (omega (arith, record-least t, record-there t i h))
 
--- after the bytes b, those of e from place d on, where node i comes to stand as node j of e
+-- the bytes b, and after them those of e from place d on: node i is node j of e, where that node's record comes to stand in its place
 module _ (b e : List ℕ) (h : HeaderHeld b) (v : version b ≡ version e) (d i j : ℕ) (from : d ≤ start e j) (there : start b i + d ≡ length b + start e j) where
   pub part-record : SameRecord (b ++ drop d e) i e j
   unfolding recordByte

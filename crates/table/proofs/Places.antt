@@ -24,11 +24,7 @@ module _ (t : List ℕ) where
   unfolding recordSize
   record-least = omega arith
 
-  -- the root's record stands after the header, and every other after those before it
-
-  pub start-root : start t 0 ≡ header t
-  unfolding start recordSize
-  start-root = omega arith
+  -- a record stands after the header and after the records before it
 
   pub start-header : (i : ℕ) → header t ≤ start t i
   unfolding start

@@ -4,7 +4,6 @@ use mathlib.Core.Path.{_≡_, sym, _∙_}
 use mathlib.Core.Bool.{false}
 use mathlib.Core.List.{List}
 use Prim.Native.Nat.{ℕ}
-use borrow.Author.Needs.{needs}
 use Rattle.answer.specs.Refusals.{here, later}
 use Rattle.answer.proofs.Settling.{settled-first, settled-none}
 use Rattle.table.specs.Tree.{isRule}

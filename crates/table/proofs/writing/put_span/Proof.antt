@@ -2,14 +2,13 @@
 -- Assumes nothing.
 use mathlib.Core.Path.{ap, _∙_}
 use mathlib.Core.List.{List}
-use Prim.Native.Nat.{ℕ, _+_, _*_, _≤_}
+use Prim.Native.Nat.{ℕ, _+_, _≤_}
 use native.Mathlib.Omega.{arith}
 use borrow.Author.Needs.{needs}
 use lib.ListN.{length}
-use Rattle.answer.specs.Fields.{fields}
 use Rattle.table.specs.Layout.{start}
 use Rattle.table.specs.Writing.{withWord}
-use Rattle.table.proofs.Places.{record-places}
+use Rattle.table.proofs.Places.{record-least, record-there}
 use Rattle.table.proofs.writing.put_span.Statement.{statement}
 use Rattle.table.proofs.writing.put_span.Tie as tie
 
@@ -21,8 +20,8 @@ module _ (c : tie.After-start-of-arg) where
   abbrev node : ℕ
   node = c .before .before .args .i
 
-  held : start table node + 5 + 2 * fields ≤ length table
-  held = record-places table node (c .before .before .pre)
+  held : start table node + 5 ≤ length table
+  held = omega (arith, record-least table, record-there table node (c .before .before .pre))
 
 start-of-requires : tie.Need-start-of-requires
 start-of-requires c κs = omega (arith, held c)
