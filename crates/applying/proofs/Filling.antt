@@ -12,7 +12,7 @@ use lib.Dec.{eqb}
 use lib.ListN.{length, getD, drop, set, length-set}
 use lib.Seq.{getD-set-same, getD-set-other}
 use Rattle.answer.specs.Fields.{fields}
-use Rattle.table.specs.Layout.{maximum}
+use Rattle.encoding.specs.Layout.{maximum}
 use Rattle.sets.specs.Sets.{Has}
 use Rattle.sets.specs.declared.Set.{Set}
 use Rattle.applying.specs.Members.{member}

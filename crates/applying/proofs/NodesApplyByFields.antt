@@ -10,7 +10,7 @@ use borrow.Author.Tests.{lt-ltb}
 use lib.ListN.{length}
 use Rattle.answer.specs.Fields.{fields}
 use Rattle.answer.specs.Requests.{value}
-use Rattle.table.specs.Layout.{count}
+use Rattle.encoding.specs.Layout.{count}
 use Rattle.table.specs.WellFormed.{WellFormed}
 use Rattle.answer.specs.Below.{everyBelow}
 use Rattle.ruling.specs.Targets.{targetHolds, applies}

@@ -9,7 +9,7 @@ use lib.ListN.{length, getD, drop}
 use Rattle.answer.specs.Fields.{fields}
 use Rattle.sets.specs.Sets.{Has}
 use Rattle.sets.specs.declared.Set.{Set}
-use Rattle.table.specs.Layout.{maximum}
+use Rattle.encoding.specs.Layout.{maximum}
 use Rattle.applying.specs.Members.{member}
 
 -- the set of a value, in a field's row

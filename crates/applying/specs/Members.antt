@@ -5,7 +5,7 @@ use mathlib.Core.List.{List, [], _∷_}
 use Prim.Native.Nat.{ℕ, suc}
 use lib.Dec.{ltb}
 use Rattle.answer.specs.Rulings.{Ruling}
-use Rattle.table.specs.Layout.{low, high, count}
+use Rattle.encoding.specs.Layout.{low, high, count}
 use Rattle.table.specs.Tree.{endOf}
 use Rattle.answer.specs.Below.{everyBelow}
 use Rattle.ruling.specs.Targets.{inRange}

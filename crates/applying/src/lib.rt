@@ -1,20 +1,20 @@
 // For each value of a field, the set of nodes that apply there in that field alone.
 use answer::FIELDS;
+use encoding::layout::count_at;
+use encoding::layout::high_of;
+use encoding::layout::low_of;
+use encoding::layout::maximum_at;
+use encoding::layout::ranges_at;
+use encoding::layout::span_at;
 use ruling::targets::byte_in_range;
 use sets::Set;
-use table::layout::count_at;
-use table::layout::high_of;
-use table::layout::low_of;
-use table::layout::maximum_at;
-use table::layout::ranges_at;
-use table::layout::span_at;
 ghost use mathlib.Core.Path.{_≡_};
 ghost use Prim.Native.Nat.{ℕ, _≤_, _<_};
 ghost use lib.ListN.{length};
 ghost use Rattle.answer.specs.Fields.{fields};
 ghost use Rattle.sets.specs.Sets.{Has};
 ghost use Rattle.table.specs.WellFormed.{WellFormed};
-ghost use Rattle.table.specs.Layout.{maximum, NodeHeld};
+ghost use Rattle.encoding.specs.Layout.{maximum, NodeHeld};
 ghost use Rattle.applying.specs.Members.{rangeHolds, member};
 ghost use Rattle.applying.specs.Filled.{setAt, thirdAt, runEnd, Runs, KeptPastMaximum, FieldFilled, ValuesFilled, SetRows, Filled, KeptPastMaxima};
 

@@ -5,13 +5,13 @@ use mathlib.Core.List.{List}
 use Prim.Native.Nat.{ℕ, _+_, _-_, _≤_, _<_}
 use native.Mathlib.Omega.{arith}
 use lib.ListN.{length, drop, length-append, length-drop}
-use Rattle.table.specs.Layout.{bytesAfter, version, countPlace, count, header, start, span, HeaderHeld, NodeHeld}
-use Rattle.table.specs.Writing.{withBytesAfter, withCount}
+use Rattle.encoding.specs.Layout.{bytesAfter, version, countPlace, count, header, start, span, HeaderHeld, NodeHeld}
+use Rattle.encoding.specs.Writing.{withBytesAfter, withCount}
 use Rattle.table.specs.WellFormed.{WellFormed}
-use Rattle.table.proofs.Places.{version-there, start-small, header-held, node-held, start-same, header-held-same, node-held-same}
-use Rattle.table.proofs.SameBytes.{SameHeader, SameRecord, header-on, node-on, record-on}
-use Rattle.table.proofs.NumbersWritten.{length-with, bytes-after-written, sized-header, sized-record, count-written, counted-header, counted-record, counted-bytes-after, span-written, spanned-header, spanned-node, spanned-record, spanned-count, spanned-bytes-after}
-use Rattle.table.proofs.Joined.{first-header, first-record, joined-record, joined-length}
+use Rattle.encoding.proofs.Places.{version-there, start-small, header-held, node-held, start-same, header-held-same, node-held-same}
+use Rattle.encoding.proofs.SameBytes.{SameHeader, SameRecord, header-on, node-on, record-on}
+use Rattle.encoding.proofs.NumbersWritten.{length-with, bytes-after-written, sized-header, sized-record, count-written, counted-header, counted-record, counted-bytes-after, span-written, spanned-header, spanned-node, spanned-record, spanned-count, spanned-bytes-after}
+use Rattle.encoding.proofs.Joined.{first-header, first-record, joined-record, joined-length}
 use Rattle.attaching.specs.Attached.{joined, nodes, attachedBytes}
 use Rattle.attaching.specs.Fitted.{Fitted}
 

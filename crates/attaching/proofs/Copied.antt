@@ -8,10 +8,10 @@ use lib.ListN.{length, take, drop, length-drop}
 use lib.Seq.{sets, take-all}
 use Rattle.answer.specs.Answers.{zeros, padded}
 use Rattle.answer.proofs.Stored.{stored-join, stored-padded}
-use Rattle.table.specs.Layout.{header, HeaderHeld, NodeHeld}
-use Rattle.table.specs.Writing.{withBytesAfter, withCount, withSpan}
+use Rattle.encoding.specs.Layout.{header, HeaderHeld, NodeHeld}
+use Rattle.encoding.specs.Writing.{withBytesAfter, withCount, withSpan}
 use Rattle.table.specs.WellFormed.{WellFormed}
-use Rattle.table.proofs.Joined.{first-held, first-node-held, first-bytes-after, first-count, first-span}
+use Rattle.encoding.proofs.Joined.{first-held, first-node-held, first-bytes-after, first-count, first-span}
 use Rattle.attaching.specs.Attached.{joined, nodes, attachedBytes}
 use Rattle.attaching.proofs.BytesFitted.{rest, sized, numbered, length-joined, length-attached, joined-held, sized-held, root-held}
 

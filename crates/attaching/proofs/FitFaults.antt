@@ -11,7 +11,7 @@ use Rattle.answer.specs.Fields.{fields}
 use Rattle.answer.specs.Refusals.{None}
 use Rattle.answer.proofs.Tests.{neither}
 use Rattle.answer.proofs.Below.{some-where, some-more, none-each}
-use Rattle.table.specs.Layout.{version, maximum, count, kind}
+use Rattle.encoding.specs.Layout.{version, maximum, count, kind}
 use Rattle.table.specs.Tree.{level, hasLevel}
 use Rattle.table.specs.WellFormed.{WellFormed}
 use Rattle.attaching.specs.Attached.{nodes, attachedBytes, headersDiffer, tooLarge, fitRefusals}

@@ -8,12 +8,12 @@ use native.Mathlib.Nat.{eq-zero-or-pos}
 use native.Mathlib.Omega.{arith}
 use Rattle.answer.specs.Fields.{fields}
 use Rattle.answer.proofs.Tests.{lt-or-ge}
-use Rattle.table.specs.Layout.{maximum, count, kind, span}
+use Rattle.encoding.specs.Layout.{maximum, count, kind, span}
 use Rattle.table.specs.Tree.{endOf, parent, level}
 use Rattle.table.specs.Reading.{Accepted}
 use Rattle.table.specs.WellFormed.{WellFormed}
 use Rattle.table.proofs.Tree.{parent-below}
-use Rattle.table.proofs.Places.{header-held}
+use Rattle.encoding.proofs.Places.{header-held}
 use Rattle.table.proofs.Header.{Headed, headed-passes, version-fault-same}
 use Rattle.table.proofs.Good.{Good, good, good-passes}
 use Rattle.table.proofs.Accepting.{accepted-header, accepted-node, passed-accepted}

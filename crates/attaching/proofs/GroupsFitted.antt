@@ -14,10 +14,10 @@ use Rattle.answer.proofs.SameRuling.{same-ruling}
 use Rattle.answer.proofs.Tests.{lt-or-ge, both, passes-alike}
 use Rattle.answer.proofs.Below.{every-same, some-none, some-same}
 use Rattle.combining.specs.Ways.{notApplicable}
-use Rattle.table.specs.Layout.{count}
+use Rattle.encoding.specs.Layout.{count}
 use Rattle.table.specs.Tree.{endOf}
 use Rattle.table.specs.Reading.{Accepted}
-use Rattle.table.specs.SameNode.{SameNode}
+use Rattle.encoding.specs.SameNode.{SameNode}
 use Rattle.table.specs.WellFormed.{WellFormed}
 use Rattle.table.proofs.AcceptedIsWellFormed.{well-formed}
 use Rattle.ruling.specs.Forest.{under, childrenOf}

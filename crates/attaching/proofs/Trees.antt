@@ -11,7 +11,7 @@ use borrow.Author.Tests.{le-leb, lt-leb, leb-true, leb-false}
 use lib.Dec.{leb}
 use Rattle.answer.proofs.Tests.{lt-or-ge}
 use Rattle.answer.proofs.Below.{some-where, some-none, none-each, some-one}
-use Rattle.table.specs.Layout.{count, span}
+use Rattle.encoding.specs.Layout.{count, span}
 use Rattle.table.specs.Tree.{endOf, latest, parent, level, hasLevel}
 use Rattle.table.specs.WellFormed.{WellFormed}
 use Rattle.table.proofs.Tree.{latest-here, latest-next, parent-below, level-root, level-child}

@@ -12,10 +12,10 @@ use Rattle.answer.specs.Answers.{refused, counted}
 use Rattle.answer.specs.Refusals.{Refusal, row, settled, None}
 use Rattle.answer.specs.Rulings.{listedOr}
 use Rattle.answer.specs.declared.Answer.{Answer}
-use Rattle.table.specs.Layout.{version, maximum, count, header}
+use Rattle.encoding.specs.Layout.{version, maximum, count, header}
 use Rattle.table.specs.Tree.{isRule, hasLevel}
 use Rattle.table.specs.Reading.{tableRefusals, Accepted}
-use Rattle.table.specs.Writing.{withBytesAfter, withCount, withSpan}
+use Rattle.encoding.specs.Writing.{withBytesAfter, withCount, withSpan}
 
 -- "From a base table and an expansion table write one table, with the expansion's root as the last child of the base root": the base's bytes, and then
 -- the expansion's nodes, which are the bytes after its header

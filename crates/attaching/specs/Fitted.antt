@@ -5,8 +5,8 @@ use mathlib.Core.Path.{_≡_}
 use Prim.Native.Nat.{ℕ, _+_, _<_}
 use lib.ListN.{length}
 use Rattle.answer.specs.Fields.{fields}
-use Rattle.table.specs.Layout.{bytesAfter, version, maximum, count, start, span}
-use Rattle.table.specs.SameNode.{SameNode}
+use Rattle.encoding.specs.Layout.{bytesAfter, version, maximum, count, start, span}
+use Rattle.encoding.specs.SameNode.{SameNode}
 
 -- Table t is base b with expansion e fitted to it.
 pub record Fitted (t b e : List ℕ) : Type 0 where

@@ -1,14 +1,14 @@
 // Refusals 17, 18 and 19, of two accepted tables.
 use answer::FIELDS;
-use table::layout::NODES;
-use table::layout::VERSION;
-use table::layout::count_at;
-use table::layout::maximum_at;
+use encoding::layout::NODES;
+use encoding::layout::VERSION;
+use encoding::layout::count_at;
+use encoding::layout::maximum_at;
 use table::levels::has_last_level;
 use table::reading::rule_at;
 ghost use mathlib.Core.Path.{_≡_};
 ghost use Rattle.answer.specs.Refusals.{firstNumber};
-ghost use Rattle.table.specs.Layout.{version, HeaderHeld};
+ghost use Rattle.encoding.specs.Layout.{version, HeaderHeld};
 ghost use Rattle.table.specs.WellFormed.{WellFormed};
 ghost use Rattle.attaching.specs.Attached.{headersDiffer, tooLarge, fitRefusals};
 

@@ -1,10 +1,10 @@
 // Writing the table: bytes are copied, and nothing is decoded.
 use answer::store_bytes;
-use table::layout::count_at;
-use table::layout::header_size;
-use table::writing::put_bytes_after;
-use table::writing::put_count;
-use table::writing::put_span;
+use encoding::layout::count_at;
+use encoding::layout::header_size;
+use encoding::writing::put_bytes_after;
+use encoding::writing::put_count;
+use encoding::writing::put_span;
 ghost use mathlib.Core.Path.{_≡_};
 ghost use Prim.Native.Nat.{_+_, _≤_, _<_};
 ghost use lib.ListN.{length};

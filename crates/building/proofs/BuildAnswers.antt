@@ -13,7 +13,7 @@ use Rattle.answer.specs.Answers.{refused, counted, zeros, padded}
 use Rattle.answer.specs.Refusals.{Refusal, First, here, None}
 use Rattle.answer.specs.declared.Answer.{Answer}
 use Rattle.answer.proofs.Settling.{all-join, all-parts, first-in, first-after, refuses, succeeds, answers, number-none}
-use Rattle.table.specs.Layout.{maxima}
+use Rattle.encoding.specs.Layout.{maxima}
 use Rattle.table.specs.Reading.{tableRefusals, Accepted}
 use Rattle.table.proofs.Accepting.{table-numbered}
 use Rattle.answer.proofs.Tests.{neither}

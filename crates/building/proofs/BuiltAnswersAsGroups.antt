@@ -12,9 +12,9 @@ use Rattle.answer.specs.Requests.{Within}
 use Rattle.answer.specs.Rulings.{answerOf}
 use Rattle.combining.specs.Ways.{NeverIndeterminate}
 use Rattle.combining.proofs.NeverIndeterminate.{none-clear}
-use Rattle.table.specs.Layout.{Bytes, maximum, maxima, kind}
+use Rattle.encoding.specs.Layout.{Bytes, maximum, maxima, kind}
 use Rattle.table.specs.Reading.{Accepted}
-use Rattle.table.proofs.Maxima.{maxima-length, maxima-bytes}
+use Rattle.encoding.proofs.Maxima.{maxima-length, maxima-bytes}
 use Rattle.ruling.specs.Targets.{applies}
 use Rattle.ruling.specs.Ruling.{groups}
 use Rattle.ruling.proofs.NeverIndeterminate.{decision-clear}

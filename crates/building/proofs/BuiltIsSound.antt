@@ -6,9 +6,9 @@ use Prim.Native.Nat.{ℕ, _≤_}
 use native.Mathlib.Omega.{arith}
 use lib.ListN.{length}
 use Rattle.answer.specs.Fields.{fields}
-use Rattle.table.specs.Layout.{Bytes, maxima}
+use Rattle.encoding.specs.Layout.{Bytes, maxima}
 use Rattle.table.specs.Reading.{Accepted}
-use Rattle.table.proofs.Maxima.{maxima-length, maxima-bytes}
+use Rattle.encoding.proofs.Maxima.{maxima-length, maxima-bytes}
 use Rattle.ruling.specs.Targets.{applies}
 use Rattle.ruling.specs.Ruling.{groups}
 use Rattle.ruling.proofs.DecisionIsOneOfFour.{meaning-below}

@@ -7,8 +7,8 @@ use Prim.Native.Nat.{ℕ}
 use lib.ListN.{length}
 use Rattle.answer.specs.Fields.{fields}
 use Rattle.answer.specs.Requests.{Within}
-use Rattle.table.specs.Layout.{maximum, maxima}
-use Rattle.table.proofs.Maxima.{maxima-length}
+use Rattle.encoding.specs.Layout.{maximum, maxima}
+use Rattle.encoding.proofs.Maxima.{maxima-length}
 use Rattle.ruling.specs.Ruling.{groups}
 use Rattle.diagram.proofs.EqualExactlyWhenAlike.{equal-exactly-when-alike}
 use Rattle.building.specs.Built.{diagramOf}

@@ -11,10 +11,10 @@ use lib.Seq.{drop-cons}
 use Rattle.answer.specs.Fields.{fields}
 use Rattle.sets.specs.Sets.{has, Has}
 use Rattle.sets.specs.declared.Set.{Set}
-use Rattle.table.specs.Layout.{maximum, maxima, HeaderHeld}
+use Rattle.encoding.specs.Layout.{maximum, maxima, HeaderHeld}
 use Rattle.table.specs.WellFormed.{WellFormed}
-use Rattle.table.proofs.Places.{header-held}
-use Rattle.table.proofs.Maxima.{maxima-length, maxima-each}
+use Rattle.encoding.proofs.Places.{header-held}
+use Rattle.encoding.proofs.Maxima.{maxima-length, maxima-each}
 use Rattle.ruling.specs.Closed.{Closed}
 use Rattle.applying.specs.Members.{member, rulingFrom}
 use Rattle.applying.specs.Filled.{setAt, runEnd, Filled}

@@ -10,7 +10,7 @@ use Rattle.answer.specs.Answers.{zeros}
 use Rattle.sets.specs.Sets.{has, same}
 use Rattle.sets.specs.declared.Set.{Set}
 use Rattle.sets.proofs.SetNumbers.{same-equal}
-use Rattle.table.specs.Layout.{maxima}
+use Rattle.encoding.specs.Layout.{maxima}
 use Rattle.applying.specs.Members.{rulingFrom}
 use Rattle.diagram.specs.Layout.{mostPlaces}
 use Rattle.diagram.specs.Walk.{Entries}

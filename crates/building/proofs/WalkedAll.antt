@@ -16,10 +16,10 @@ use Rattle.answer.specs.declared.Answer.{Answer}
 use Rattle.answer.proofs.Tests.{lt-or-ge}
 use Rattle.sets.specs.Sets.{most, has, Has}
 use Rattle.sets.specs.declared.Set.{Set}
-use Rattle.table.specs.Layout.{count, maxima}
+use Rattle.encoding.specs.Layout.{count, maxima}
 use Rattle.table.specs.Reading.{Accepted}
 use Rattle.table.specs.WellFormed.{WellFormed}
-use Rattle.table.proofs.Maxima.{maxima-length}
+use Rattle.encoding.proofs.Maxima.{maxima-length}
 use Rattle.ruling.specs.Ruling.{groups}
 use Rattle.applying.specs.Members.{rulingFrom}
 use Rattle.applying.specs.Filled.{SetRows}

@@ -8,8 +8,8 @@ use native.Mathlib.Omega.{arith}
 use lib.ListN.{length}
 use Rattle.answer.specs.Fields.{fields}
 use Rattle.answer.specs.Requests.{Within}
-use Rattle.table.specs.Layout.{maximum, maxima}
-use Rattle.table.proofs.Maxima.{maxima-length, maxima-each}
+use Rattle.encoding.specs.Layout.{maximum, maxima}
+use Rattle.encoding.proofs.Maxima.{maxima-length, maxima-each}
 use Rattle.diagram.specs.Walk.{WithinMaxima}
 use Rattle.diagram.proofs.WithinAsWalked.{within-length, within-each, each-within}
 

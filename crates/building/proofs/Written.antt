@@ -9,7 +9,7 @@ use lib.ListN.{length, take, drop, length-append, length-replicate}
 use lib.Seq.{sets, sets-eq, drop-at, length-sets}
 use Rattle.answer.specs.Fields.{fields}
 use Rattle.answer.specs.Answers.{zeros, padded}
-use Rattle.table.specs.Layout.{maxima}
+use Rattle.encoding.specs.Layout.{maxima}
 use Rattle.table.specs.WellFormed.{WellFormed}
 use Rattle.ruling.specs.Meaning.{meaning}
 use Rattle.ruling.proofs.AtMost127Cards.{few-cards}

@@ -9,7 +9,7 @@ use Rattle.answer.specs.Answers.{refused, counted}
 use Rattle.answer.specs.Refusals.{Refusal, row, settled}
 use Rattle.answer.specs.Rulings.{listedOr}
 use Rattle.answer.specs.declared.Answer.{Answer}
-use Rattle.table.specs.Layout.{maxima}
+use Rattle.encoding.specs.Layout.{maxima}
 use Rattle.table.specs.Reading.{tableRefusals}
 use Rattle.ruling.specs.Ruling.{groups}
 use Rattle.diagram.specs.Layout.{mostPlaces}

@@ -8,7 +8,7 @@ use lib.ListN.{getD, drop}
 use Rattle.answer.specs.Fields.{fields}
 use Rattle.sets.specs.Sets.{has}
 use Rattle.sets.specs.declared.Set.{Set}
-use Rattle.table.specs.Layout.{maxima}
+use Rattle.encoding.specs.Layout.{maxima}
 use Rattle.ruling.specs.Ruling.{groups}
 use Rattle.applying.specs.Members.{rulingFrom}
 use Rattle.diagram.specs.Walk.{Entries, Entered, walk}

@@ -1,13 +1,13 @@
 // The header of a diagram.
 use answer::store;
-use table::layout::maxima_at;
+use encoding::layout::maxima_at;
 ghost use mathlib.Core.Path.{_≡_};
 ghost use mathlib.Core.List.{_∷_};
 ghost use Prim.Native.Nat.{_≤_};
 ghost use lib.ListN.{length};
 ghost use lib.Seq.{sets};
 ghost use Rattle.answer.specs.Fields.{fields};
-ghost use Rattle.table.specs.Layout.{maxima, HeaderHeld};
+ghost use Rattle.encoding.specs.Layout.{maxima, HeaderHeld};
 ghost use Rattle.diagram.specs.Layout;
 
 // The places used, the place of the root and the maxima, to the start of a diagram.

@@ -9,7 +9,7 @@ use native.Mathlib.Omega.{arith}
 use lib.ListN.{length, set}
 use lib.Seq.{sets, length-sets}
 use Rattle.answer.proofs.Tests.{lt-or-ge}
-use Rattle.table.specs.Layout.{kind, card, count}
+use Rattle.encoding.specs.Layout.{kind, card, count}
 use Rattle.table.specs.WellFormed.{WellFormed}
 use Rattle.ruling.specs.Meaning.{cardsFrom, cards}
 use Rattle.ruling.proofs.Cards.{matches-rule, matches-group, cards-none, cards-more, cards-skip, cards-join, cards-few}

@@ -12,7 +12,7 @@ use Rattle.answer.proofs.Tests.{lt-or-ge}
 use Rattle.combining.specs.Ways.{asChild}
 use Rattle.combining.specs.Running.{Reachable, Started, Taken}
 use Rattle.combining.specs.declared.Running.{Running}
-use Rattle.table.specs.Layout.{kind, span, count}
+use Rattle.encoding.specs.Layout.{kind, span, count}
 use Rattle.table.specs.Tree.{endOf}
 use Rattle.table.specs.WellFormed.{WellFormed}
 use Rattle.ruling.specs.Meaning.{decision}

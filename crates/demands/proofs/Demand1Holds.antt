@@ -9,7 +9,7 @@ use Rattle.answer.specs.Fields.{fields}
 use Rattle.answer.specs.Answers.{refused, counted, zeros, padded}
 use Rattle.answer.specs.Rulings.{answerOf}
 use Rattle.answer.proofs.Settling.{answers}
-use Rattle.table.specs.Layout.{maxima, count}
+use Rattle.encoding.specs.Layout.{maxima, count}
 use Rattle.table.specs.Reading.{tableRefusals}
 use Rattle.table.proofs.Accepting.{accepted-reading}
 use Rattle.ruling.specs.Subjects.{size}

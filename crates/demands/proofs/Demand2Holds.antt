@@ -2,7 +2,7 @@
 use mathlib.Core.Path.{_≡_, refl}
 use mathlib.Core.List.{List}
 use Prim.Native.Nat.{ℕ}
-use Rattle.table.specs.Layout.{maximum}
+use Rattle.encoding.specs.Layout.{maximum}
 use Rattle.table.specs.Reading.{tableRefusals, Accepted}
 use Rattle.ruling.specs.Subjects.{appliesToSome, size, AskedWithin}
 use Rattle.ruling.specs.Ruling.{groupsTogether, ruling, ruledList}

@@ -12,7 +12,7 @@ use Rattle.answer.specs.Rulings.{answerOf}
 use Rattle.answer.proofs.SameRuling.{same-ruling}
 use Rattle.combining.specs.Ways.{notApplicable, Child}
 use Rattle.combining.proofs.Fold.{pick, way-none}
-use Rattle.table.specs.Layout.{maximum, maxima, count, kind}
+use Rattle.encoding.specs.Layout.{maximum, maxima, count, kind}
 use Rattle.table.specs.Reading.{Accepted}
 use Rattle.table.proofs.AcceptedIsWellFormed.{well-formed}
 use Rattle.table.proofs.Computing.{table-computes}

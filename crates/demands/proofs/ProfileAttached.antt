@@ -16,7 +16,7 @@ use Rattle.answer.proofs.Settling.{first-in, first-after, first-upward, settled
 use Rattle.answer.proofs.Tests.{lt-or-ge, or-true, or-false}
 use Rattle.combining.specs.Kinds.{onlyOneApplicableKind, permitRuleKind}
 use Rattle.combining.specs.Ways.{any}
-use Rattle.table.specs.Layout.{count, kind}
+use Rattle.encoding.specs.Layout.{count, kind}
 use Rattle.table.specs.Tree.{isRule, parent}
 use Rattle.table.specs.Reading.{tableRefusals, Accepted}
 use Rattle.table.specs.Conformance.{asksForRules, ruleAsked, nodeConforms, conforms}

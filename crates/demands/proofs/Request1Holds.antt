@@ -4,7 +4,7 @@ use mathlib.Core.List.{List, _∷_, _++_}
 use Prim.Native.Nat.{ℕ, _^_, _<_}
 use Rattle.answer.specs.Answers.{ruled, padded}
 use Rattle.answer.specs.Rulings.{answerOf}
-use Rattle.table.specs.Layout.{maximum}
+use Rattle.encoding.specs.Layout.{maximum}
 use Rattle.ruling.specs.Subjects.{mostSubjects, size}
 use Rattle.ruling.specs.Ruling.{groups, ruling, ruledList}
 use Rattle.ruling.proofs.SubjectsByParents.{applies-to-some-by-parents}

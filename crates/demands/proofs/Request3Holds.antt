@@ -6,7 +6,7 @@ use Rattle.answer.specs.Answers.{refused, counted, zeros, padded}
 use Rattle.answer.specs.Rulings.{answerOf}
 use Rattle.answer.proofs.Settling.{answers}
 use Rattle.combining.proofs.Fold.{pick}
-use Rattle.table.specs.Layout.{count, kind}
+use Rattle.encoding.specs.Layout.{count, kind}
 use Rattle.table.proofs.AcceptedIsWellFormed.{well-formed}
 use Rattle.ruling.specs.Subjects.{size}
 use Rattle.ruling.specs.Ruling.{groupsTogether}

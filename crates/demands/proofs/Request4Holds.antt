@@ -1,6 +1,6 @@
 -- Request 4 is met.
-use Rattle.table.specs.Ranges.{rangesWord}
-use Rattle.table.proofs.RangesReadBack.{ranges-fit, reads-back}
+use Rattle.encoding.specs.Ranges.{rangesWord}
+use Rattle.encoding.proofs.RangesReadBack.{ranges-fit, reads-back}
 use Rattle.ruling.proofs.TargetFromWord.{target-from}
 use Rattle.demands.specs.Request4.{Request4}
 

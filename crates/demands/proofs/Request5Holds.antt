@@ -2,7 +2,7 @@
 use mathlib.Core.Path.{sym, ap, _∙_}
 use mathlib.Core.List.{_++_}
 use borrow.Author.Tests.{leb-false}
-use Rattle.table.specs.Layout.{kind}
+use Rattle.encoding.specs.Layout.{kind}
 use Rattle.ruling.specs.Ruling.{rulingRefusals}
 use Rattle.ruling.proofs.NeverIndeterminate.{decision-clear, running-clear, running-ends, ruling-clear}
 use Rattle.standard.specs.RulingStandard.{rulingStandardRefusals}

@@ -11,7 +11,7 @@ use Rattle.answer.specs.Fields.{fields}
 use Rattle.answer.specs.Answers.{refused, counted, zeros, padded}
 use Rattle.answer.specs.Refusals.{Answers}
 use Rattle.answer.specs.Rulings.{answerOf}
-use Rattle.table.specs.Layout.{count}
+use Rattle.encoding.specs.Layout.{count}
 use Rattle.table.specs.Reading.{tableRefusals, reading, Accepted}
 use Rattle.ruling.specs.Subjects.{size}
 use Rattle.ruling.specs.Ruling.{groupsTogether, rulingRefusals, ruling, ruledList}

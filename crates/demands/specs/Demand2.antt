@@ -10,7 +10,7 @@ use Rattle.answer.specs.Fields.{fields}
 use Rattle.answer.specs.Answers.{ruled}
 use Rattle.answer.specs.Refusals.{None}
 use Rattle.combining.specs.Ways.{notApplicable, permit, deny, indeterminate}
-use Rattle.table.specs.Layout.{maximum, count, card}
+use Rattle.encoding.specs.Layout.{maximum, count, card}
 use Rattle.table.specs.Reading.{Accepted}
 use Rattle.ruling.specs.Forest.{under, childrenOf, trees}
 use Rattle.ruling.specs.Subjects.{appliesToSome, size, AskedWithin}

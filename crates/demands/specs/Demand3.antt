@@ -11,7 +11,7 @@ use lib.ListN.{length, getD}
 use Rattle.answer.specs.Answers.{counted, ruled, zeros, padded}
 use Rattle.answer.specs.Rulings.{Ruling}
 use Rattle.combining.specs.Ways.{notApplicable}
-use Rattle.table.specs.Layout.{maximum, maxima, count, card}
+use Rattle.encoding.specs.Layout.{maximum, maxima, count, card}
 use Rattle.table.specs.Tree.{isRule, Above}
 use Rattle.table.specs.Reading.{Accepted}
 use Rattle.ruling.specs.Targets.{targetHolds, applies}

@@ -6,7 +6,7 @@ use mathlib.Core.Path.{_≡_}
 use Prim.Native.Nat.{ℕ, _+_, _^_, _<_}
 use Rattle.answer.specs.Answers.{refused, ruled}
 use Rattle.combining.specs.Ways.{notApplicable, permit, deny}
-use Rattle.table.specs.Layout.{count}
+use Rattle.encoding.specs.Layout.{count}
 use Rattle.table.specs.Tree.{Above}
 use Rattle.table.specs.Reading.{Accepted}
 use Rattle.ruling.specs.Targets.{targetHolds}

@@ -7,7 +7,7 @@ use Prim.Native.Nat.{ℕ, _+_, _<_}
 use Rattle.answer.specs.Answers.{ruled}
 use Rattle.combining.specs.Kinds.{onlyOneApplicableKind}
 use Rattle.combining.specs.Ways.{notApplicable, permit, indeterminate, counting, sole}
-use Rattle.table.specs.Layout.{count, kind}
+use Rattle.encoding.specs.Layout.{count, kind}
 use Rattle.table.specs.Reading.{Accepted}
 use Rattle.ruling.specs.Forest.{childrenOf}
 use Rattle.ruling.specs.Meaning.{childOf, decision}

@@ -10,7 +10,7 @@ use Rattle.answer.specs.Refusals.{Answers}
 use Rattle.answer.specs.Rulings.{answerOf}
 use Rattle.combining.specs.Kinds.{onlyOneApplicableKind}
 use Rattle.combining.specs.Ways.{notApplicable, permit, deny}
-use Rattle.table.specs.Layout.{count, kind}
+use Rattle.encoding.specs.Layout.{count, kind}
 use Rattle.table.specs.Tree.{isRule}
 use Rattle.table.specs.Reading.{reading, Accepted}
 use Rattle.ruling.specs.Forest.{childrenOf}

@@ -3,8 +3,8 @@ use mathlib.Core.List.{List}
 use mathlib.Core.Path.{_≡_}
 use Prim.Native.Nat.{ℕ, _^_, _<_}
 use Rattle.answer.specs.Fields.{fields}
-use Rattle.table.specs.Layout.{Bytes, low, high}
-use Rattle.table.specs.Ranges.{rangesWord, lowOf, highOf}
+use Rattle.encoding.specs.Layout.{Bytes, low, high}
+use Rattle.encoding.specs.Ranges.{rangesWord, lowOf, highOf}
 use Rattle.ruling.specs.Targets.{targetHolds, targetHoldsFrom}
 
 pub record Request4 : Type 0 where

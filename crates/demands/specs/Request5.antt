@@ -8,7 +8,7 @@ use lib.ListN.{length}
 use Rattle.answer.specs.Fields.{fields}
 use Rattle.combining.specs.Kinds.{denyOverridesKind}
 use Rattle.combining.specs.Ways.{indeterminate}
-use Rattle.table.specs.Layout.{kind}
+use Rattle.encoding.specs.Layout.{kind}
 use Rattle.table.specs.Tree.{isRule}
 use Rattle.ruling.specs.Forest.{under}
 use Rattle.ruling.specs.Meaning.{children, decision, runningDecision}

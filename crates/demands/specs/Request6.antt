@@ -8,7 +8,7 @@ use lib.ListN.{length}
 use Rattle.answer.specs.Answers.{refused, counted, ruled, zeros, padded}
 use Rattle.answer.specs.Refusals.{Answers}
 use Rattle.combining.specs.Ways.{notApplicable, permit, deny}
-use Rattle.table.specs.Layout.{version, count}
+use Rattle.encoding.specs.Layout.{version, count}
 use Rattle.table.specs.Tree.{parent, level, hasLevel}
 use Rattle.table.specs.Reading.{Accepted}
 use Rattle.ruling.specs.Forest.{childrenOf}

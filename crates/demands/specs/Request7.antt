@@ -8,7 +8,7 @@ use Prim.Native.Nat.{ℕ, suc, _+_, _≤_, _<_}
 use Rattle.answer.specs.Fields.{fields}
 use Rattle.answer.specs.Answers.{refused, counted, ruled}
 use Rattle.combining.specs.Ways.{notApplicable, permit}
-use Rattle.table.specs.Layout.{maximum, low, high}
+use Rattle.encoding.specs.Layout.{maximum, low, high}
 use Rattle.table.specs.Reading.{rangesFault, reading}
 use Rattle.ruling.specs.Targets.{inRange}
 use Rattle.building.specs.Built.{builtDiagram}

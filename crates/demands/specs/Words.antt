@@ -7,7 +7,7 @@ use Rattle.answer.specs.Answers.{padded}
 use Rattle.answer.specs.Order.{IsRequest}
 use Rattle.answer.specs.Rulings.{Ruling, answerOf}
 use Rattle.answer.specs.declared.Answer.{Answer}
-use Rattle.table.specs.Layout.{Bytes, maximum}
+use Rattle.encoding.specs.Layout.{Bytes, maximum}
 use Rattle.table.specs.Reading.{Accepted}
 use Rattle.ruling.specs.Ruling.{groups}
 use Rattle.diagram.specs.Layout.{used}

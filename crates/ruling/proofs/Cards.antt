@@ -9,7 +9,7 @@ use borrow.Author.Tests.{le-leb, lt-leb}
 use lib.Dec.{leb}
 use lib.ListN.{length}
 use Rattle.answer.proofs.Tests.{and-false}
-use Rattle.table.specs.Layout.{kind, card}
+use Rattle.encoding.specs.Layout.{kind, card}
 use Rattle.ruling.specs.Meaning.{matches, cardsFrom}
 use Rattle.ruling.proofs.Listed.{listed-join}
 

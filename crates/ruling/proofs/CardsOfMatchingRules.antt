@@ -11,7 +11,7 @@ use native.Mathlib.Omega.{arith}
 use lib.ListN.{getD, length, length-append}
 use lib.Seq.{getD-at}
 use Rattle.answer.specs.Below.{countBelow}
-use Rattle.table.specs.Layout.{count, card}
+use Rattle.encoding.specs.Layout.{count, card}
 use Rattle.ruling.specs.Meaning.{matches, cardsFrom, cards, matching}
 use Rattle.ruling.proofs.Cards.{cards-none, cards-more, cards-join}
 

@@ -8,7 +8,7 @@ use native.Mathlib.Omega.{arith}
 use Rattle.combining.specs.Ways.{asChild, way}
 use Rattle.combining.specs.Running.{Reachable, Started, Taken}
 use Rattle.combining.specs.declared.Running.{Running}
-use Rattle.table.specs.Layout.{count, span}
+use Rattle.encoding.specs.Layout.{count, span}
 use Rattle.table.specs.Tree.{endOf}
 use Rattle.table.specs.WellFormed.{WellFormed}
 use Rattle.ruling.specs.Forest.{run}

@@ -11,7 +11,7 @@ use Rattle.combining.specs.Ways.{notApplicable, permit, deny, Child, asChild, a
 use Rattle.combining.specs.Running.{soFar, Reachable, Started, Takes, Taken}
 use Rattle.combining.specs.declared.Running.{Running}
 use Rattle.combining.proofs.Fold.{pair, absent-first, absent-next, OneOfFour, none, more, way-below}
-use Rattle.table.specs.Layout.{kind}
+use Rattle.encoding.specs.Layout.{kind}
 use Rattle.table.specs.Tree.{endOf, isRule}
 use Rattle.table.specs.WellFormed.{WellFormed}
 use Rattle.ruling.specs.Forest.{Forest, empty, node, run, under}

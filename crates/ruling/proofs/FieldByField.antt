@@ -9,7 +9,7 @@ use Rattle.answer.specs.Fields.{fields}
 use Rattle.answer.specs.Requests.{value}
 use Rattle.answer.specs.Below.{everyBelow}
 use Rattle.answer.proofs.Below.{every-more, every-false, every-first}
-use Rattle.table.specs.Ranges.{lowOf, highOf}
+use Rattle.encoding.specs.Ranges.{lowOf, highOf}
 use Rattle.ruling.specs.Targets.{inRange, fieldHoldsFrom, targetHoldsFrom}
 use Rattle.ruling.specs.Walk.{othersHoldFrom}
 

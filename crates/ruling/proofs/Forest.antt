@@ -8,7 +8,7 @@ use Prim.Native.Nat.{ℕ, zero, suc, _+_, _-_, _≤_, _<_}
 use native.Mathlib.Omega.{arith}
 use borrow.Author.Tests.{lt-ltb, le-ltb}
 use Rattle.answer.proofs.Tests.{lt-or-ge}
-use Rattle.table.specs.Layout.{span, count}
+use Rattle.encoding.specs.Layout.{span, count}
 use Rattle.table.specs.Tree.{endOf}
 use Rattle.table.specs.WellFormed.{WellFormed}
 use Rattle.ruling.specs.Forest.{Forest, empty, node, forestWithin, run, under}

@@ -21,7 +21,7 @@ use Rattle.answer.specs.Requests.{valueFault}
 use Rattle.answer.specs.Rulings.{Ruling, valueRefusals, listRefusal, answerOf, ruledOr}
 use Rattle.answer.specs.declared.Answer.{Answer}
 use Rattle.answer.proofs.Settling.{all-join, all-upward, all-first, first-or-none, settled-first, settled-none, refused-before, settled-later, Numbered}
-use Rattle.table.specs.Layout.{maximum}
+use Rattle.encoding.specs.Layout.{maximum}
 use Rattle.ruling.specs.Subjects.{size}
 use Rattle.ruling.specs.Ruling.{groupsTogether, askedRefusals, ruledAfter, listedAfter, forSubjects}
 

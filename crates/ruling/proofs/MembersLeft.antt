@@ -7,7 +7,7 @@ use Prim.Native.Nat.{ℕ, _+_, _^_, _≤_, _<_}
 use Rattle.answer.proofs.Below.{some-where, some-one, some-none, some-same}
 use Rattle.answer.proofs.Tests.{both, and-true, and-false}
 use Rattle.sets.proofs.WordPlaces.{bit-none}
-use Rattle.table.specs.Layout.{span, count}
+use Rattle.encoding.specs.Layout.{span, count}
 use Rattle.table.specs.Tree.{endOf}
 use Rattle.table.specs.WellFormed.{WellFormed}
 use Rattle.ruling.specs.Targets.{targetHolds, applies}

@@ -13,7 +13,7 @@ use Rattle.answer.proofs.RequestRefusals.{ruled-so}
 use Rattle.combining.specs.Ways.{indeterminate, absent, taken, NeverIndeterminate}
 use Rattle.combining.proofs.Fold.{folds}
 use Rattle.combining.proofs.NeverIndeterminate.{way-clear, none-clear, taken-clear}
-use Rattle.table.specs.Layout.{kind}
+use Rattle.encoding.specs.Layout.{kind}
 use Rattle.ruling.specs.Forest.{under}
 use Rattle.ruling.specs.Subjects.{appliesToSome, size}
 use Rattle.ruling.specs.Meaning.{children, decision, runningDecision}

@@ -8,7 +8,7 @@ use native.Mathlib.Omega.{arith}
 use borrow.Author.Tests.{leb-true}
 use lib.ListN.{length, getD}
 use Rattle.answer.proofs.Tests.{both}
-use Rattle.table.specs.Layout.{kind}
+use Rattle.encoding.specs.Layout.{kind}
 use Rattle.table.specs.Tree.{isRule}
 use Rattle.table.specs.Reading.{Accepted}
 use Rattle.table.proofs.AcceptedIsWellFormed.{well-formed}

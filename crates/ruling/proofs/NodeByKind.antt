@@ -7,7 +7,7 @@ use Prim.Native.Nat.{ℕ, _+_, _≤_, _<_}
 use native.Mathlib.Omega.{arith}
 use lib.ListN.{set}
 use Rattle.combining.specs.Ways.{way}
-use Rattle.table.specs.Layout.{kind, card}
+use Rattle.encoding.specs.Layout.{kind, card}
 use Rattle.table.specs.WellFormed.{WellFormed}
 use Rattle.ruling.specs.Forest.{run}
 use Rattle.ruling.specs.Meaning.{effect, children, decision}

@@ -9,7 +9,7 @@ use native.Mathlib.Omega.{arith}
 use lib.Dec.{leb}
 use Rattle.answer.proofs.Tests.{lt-or-ge}
 use Rattle.combining.specs.Ways.{notApplicable, Child, way}
-use Rattle.table.specs.Layout.{count, kind, span, card}
+use Rattle.encoding.specs.Layout.{count, kind, span, card}
 use Rattle.table.specs.Tree.{endOf}
 use Rattle.table.specs.WellFormed.{WellFormed}
 use Rattle.ruling.specs.Forest.{forestWithin, under}

@@ -7,10 +7,10 @@ use Prim.Native.Nat.{ℕ, suc, _+_, _-_, _≤_, _<_}
 use native.Mathlib.Omega.{arith}
 use lib.ListN.{length, set, length-append}
 use lib.Seq.{sets, length-sets}
-use Rattle.table.specs.Layout.{count, kind, card, NodeHeld}
+use Rattle.encoding.specs.Layout.{count, kind, card, NodeHeld}
 use Rattle.table.specs.Tree.{endOf}
 use Rattle.table.specs.WellFormed.{WellFormed}
-use Rattle.table.proofs.Places.{node-held}
+use Rattle.encoding.proofs.Places.{node-held}
 use Rattle.ruling.specs.Meaning.{cardsFrom, cards}
 use Rattle.ruling.specs.Walk.{Node, ChildRun, cardsBetween, Gathered}
 use Rattle.ruling.proofs.Forest.{whole-under, whole-after}

@@ -16,7 +16,7 @@ use Rattle.answer.proofs.Tests.{lt-or-ge, and-true, and-false}
 use Rattle.sets.specs.Sets.{bit, Next}
 use Rattle.sets.proofs.WordPlaces.{bit-and, bit-or, bit-zero, bit-none, bit-past, bit-all, bit-shifted, bit-left}
 use Rattle.sets.proofs.NextNumber.{least-within, least-next}
-use Rattle.table.specs.Ranges.{lowOf, highOf}
+use Rattle.encoding.specs.Ranges.{lowOf, highOf}
 use Rattle.ruling.specs.Targets.{inRange, targetHoldsFrom}
 use Rattle.ruling.specs.Subjects.{mostSubjects, member, someMember, subjectsFault}
 use Rattle.ruling.specs.Walk.{othersHoldFrom}

@@ -6,8 +6,8 @@ use Prim.Native.Nat.{ℕ, _<_}
 use Rattle.answer.specs.Fields.{fields}
 use Rattle.answer.specs.Requests.{value}
 use Rattle.answer.proofs.Below.{every-same}
-use Rattle.table.specs.Layout.{low, high}
-use Rattle.table.specs.Ranges.{lowOf, highOf, ReadsBack}
+use Rattle.encoding.specs.Layout.{low, high}
+use Rattle.encoding.specs.Ranges.{lowOf, highOf, ReadsBack}
 use Rattle.ruling.specs.Targets.{inRange, fieldHolds, targetHolds, fieldHoldsFrom, targetHoldsFrom}
 
 module _ (t : List ℕ) (i w : ℕ) (back : ReadsBack w t i) where

@@ -20,7 +20,7 @@ use Rattle.answer.proofs.Below.{some-where, some-one}
 use Rattle.answer.proofs.Tests.{neither}
 use Rattle.answer.proofs.Settling.{all-join, all-parts, answers}
 use Rattle.answer.proofs.RequestRefusals.{within-none, none-within}
-use Rattle.table.specs.Layout.{maximum}
+use Rattle.encoding.specs.Layout.{maximum}
 use Rattle.ruling.specs.Subjects.{mostSubjects, member, someMember, size, subjectsFault, AskedWithin}
 use Rattle.ruling.specs.Ruling.{groupsTogether, askedRefusals, ruledAfter, listedAfter}
 use Rattle.ruling.proofs.Members.{no-member}

@@ -4,7 +4,7 @@ use mathlib.Core.Bool.{true, false, cond}
 use mathlib.Core.List.{List, [], _∷_}
 use Prim.Native.Nat.{ℕ, zero, suc, _+_, _-_}
 use lib.Dec.{eqb, ltb}
-use Rattle.table.specs.Layout.{count}
+use Rattle.encoding.specs.Layout.{count}
 use Rattle.table.specs.Tree.{endOf, parent}
 
 -- Nodes on one level, in order: a first node with the nodes under it, and then the nodes after those.

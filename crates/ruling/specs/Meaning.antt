@@ -11,7 +11,7 @@ use Rattle.answer.specs.Below.{countBelow}
 use Rattle.answer.specs.Rulings.{Ruling}
 use Rattle.combining.specs.Kinds.{permitRuleKind}
 use Rattle.combining.specs.Ways.{notApplicable, permit, deny, Child, asChild, absent, way, taken}
-use Rattle.table.specs.Layout.{count, kind, card}
+use Rattle.encoding.specs.Layout.{count, kind, card}
 use Rattle.table.specs.Tree.{isRule}
 use Rattle.ruling.specs.Forest.{Forest, empty, node, under}
 

@@ -9,7 +9,7 @@ use Rattle.answer.specs.Answers.{refused, ruled}
 use Rattle.answer.specs.Refusals.{Refusal, row}
 use Rattle.answer.specs.Rulings.{Ruling, requestRefusals, ruledOr, listedOr}
 use Rattle.answer.specs.declared.Answer.{Answer}
-use Rattle.table.specs.Layout.{maximum}
+use Rattle.encoding.specs.Layout.{maximum}
 use Rattle.table.specs.Reading.{tableRefusals}
 use Rattle.ruling.specs.Targets.{applies}
 use Rattle.ruling.specs.Subjects.{appliesToSome, size, subjectsFault}

@@ -7,8 +7,8 @@ use lib.Dec.{leb, ltb}
 use Rattle.answer.specs.Below.{everyBelow}
 use Rattle.answer.specs.Fields.{fields}
 use Rattle.answer.specs.Requests.{value}
-use Rattle.table.specs.Layout.{low, high}
-use Rattle.table.specs.Ranges.{lowOf, highOf}
+use Rattle.encoding.specs.Layout.{low, high}
+use Rattle.encoding.specs.Ranges.{lowOf, highOf}
 use Rattle.table.specs.Tree.{endOf}
 
 -- "low and high [..], both ends included": the value lies in the range; paper 7, "A low above its high now means values from low upward or up to high"

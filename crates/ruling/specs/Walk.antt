@@ -8,7 +8,7 @@ use lib.ListN.{length}
 use lib.Seq.{sets}
 use Rattle.answer.specs.Below.{everyBelow}
 use Rattle.answer.specs.Fields.{fields}
-use Rattle.table.specs.Layout.{count}
+use Rattle.encoding.specs.Layout.{count}
 use Rattle.table.specs.Tree.{endOf}
 use Rattle.ruling.specs.Targets.{targetHolds, fieldHoldsFrom, applies}
 use Rattle.ruling.specs.Subjects.{member}

@@ -1,19 +1,19 @@
 // Which subjects a target holds for: those in its range of subjects, where every other value lies in its range.
 use answer::OTHERS;
+use encoding::layout::high_of;
+use encoding::layout::low_of;
+use encoding::layout::ranges_at;
 use sets::WORD;
 use sets::least_at;
 use sets::without_least;
 use std::num::wrapping_sub_u8;
 use std::num::wrapping_sub_u16;
-use table::layout::high_of;
-use table::layout::low_of;
-use table::layout::ranges_at;
 ghost use mathlib.Core.Path.{_≡_};
 ghost use mathlib.Core.Bool.{_&&_};
 ghost use mathlib.Core.List.{_∷_};
 ghost use Prim.Native.Nat.{ℕ, _<_};
 ghost use lib.Dec.{leb};
-ghost use Rattle.table.specs.Layout.{NodeHeld};
+ghost use Rattle.encoding.specs.Layout.{NodeHeld};
 ghost use Rattle.ruling.specs.Targets.{inRange, targetHolds, targetHoldsFrom};
 ghost use Rattle.ruling.specs.Subjects.{mostSubjects, member, subjectsFault};
 ghost use Rattle.ruling.specs.Walk.{othersHoldFrom};

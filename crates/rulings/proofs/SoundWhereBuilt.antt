@@ -7,7 +7,7 @@ use lib.ListN.{length}
 use Rattle.answer.specs.Fields.{fields}
 use Rattle.answer.specs.Answers.{zeros}
 use Rattle.answer.specs.declared.Answer.{Answer}
-use Rattle.table.specs.Layout.{Bytes}
+use Rattle.encoding.specs.Layout.{Bytes}
 use Rattle.diagram.specs.Sound.{Sound}
 use Rattle.building.specs.Built.{diagramOf, built, builtDiagram}
 use Rattle.building.proofs.BuiltIsSound.{built-is-sound}

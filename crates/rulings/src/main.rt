@@ -2,11 +2,11 @@
 use answer::FIELDS;
 use building::build;
 use diagram::MOST_PLACES;
+use encoding::layout::MOST_BYTES;
 use listing::LINE;
 use listing::lines::fields_line;
 use listing::lines::refused_line;
 use listing::pages::fill;
-use table::layout::MOST_BYTES;
 ghost use Rattle.answer.specs.Fields.{fields};
 ghost use Rattle.diagram.specs.Sound.{Sound};
 

@@ -10,7 +10,7 @@ use Rattle.answer.specs.Answers.{refused, counted}
 use Rattle.answer.specs.Refusals.{Refusal, row, upward, None, First}
 use Rattle.answer.specs.declared.Answer.{Answer}
 use Rattle.answer.proofs.Settling.{all-join, all-parts, all-upward, upward-all, first-in, first-after, settled-first, settled-none, settled-after, Numbered, number-none, number-first}
-use Rattle.table.specs.Layout.{count}
+use Rattle.encoding.specs.Layout.{count}
 use Rattle.table.specs.Reading.{tableRefusals, reading, Accepted}
 use Rattle.table.proofs.Accepting.{read-refused}
 use Rattle.standard.specs.Profile.{atNode, mixedGroup, ruleInOnlyOne, ruleAsRoot, profileRefusals, standardRefusals, Standard, profiled, readingStandard}

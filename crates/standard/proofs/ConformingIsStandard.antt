@@ -12,7 +12,7 @@ use Rattle.answer.proofs.Below.{every-true, every-each}
 use Rattle.answer.proofs.Settling.{all-join, all-upward}
 use Rattle.answer.proofs.Tests.{and-true, and-false}
 use Rattle.combining.specs.Ways.{any}
-use Rattle.table.specs.Layout.{count}
+use Rattle.encoding.specs.Layout.{count}
 use Rattle.table.specs.Tree.{isRule, parent}
 use Rattle.table.specs.Reading.{tableRefusals, Accepted}
 use Rattle.table.specs.Conformance.{asksForRules, ruleAsked, nodeConforms, conforms}

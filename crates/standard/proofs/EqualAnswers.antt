@@ -7,7 +7,7 @@ use Rattle.answer.specs.Answers.{refused, counted, zeros, padded}
 use Rattle.answer.specs.Refusals.{settled}
 use Rattle.answer.specs.Rulings.{Ruling, answerOf}
 use Rattle.answer.proofs.Settling.{settled-none, settled-after}
-use Rattle.table.specs.Layout.{count}
+use Rattle.encoding.specs.Layout.{count}
 use Rattle.table.specs.Reading.{tableRefusals, reading}
 use Rattle.table.proofs.Accepting.{accepted-reading}
 use Rattle.ruling.specs.Subjects.{size}

@@ -14,7 +14,7 @@ use Rattle.answer.proofs.Tests.{lt-or-ge}
 use Rattle.combining.specs.Kinds.{onlyOneApplicableKind, permitRuleKind}
 use Rattle.combining.specs.Ways.{notApplicable, permit, deny, indeterminate, any, way}
 use Rattle.combining.proofs.Fold.{way-none}
-use Rattle.table.specs.Layout.{count, kind}
+use Rattle.encoding.specs.Layout.{count, kind}
 use Rattle.table.specs.Tree.{isRule}
 use Rattle.table.specs.Reading.{Accepted}
 use Rattle.table.proofs.AcceptedIsWellFormed.{well-formed}

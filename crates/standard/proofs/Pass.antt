@@ -17,7 +17,7 @@ use Rattle.answer.proofs.Settling.{all-join, all-upward, first-in, first-after,
 use Rattle.answer.proofs.Tests.{neither, and-false}
 use Rattle.combining.specs.Kinds.{onlyOneApplicableKind}
 use Rattle.combining.specs.Ways.{any}
-use Rattle.table.specs.Layout.{count, kind}
+use Rattle.encoding.specs.Layout.{count, kind}
 use Rattle.table.specs.Tree.{isRule, endOf}
 use Rattle.table.specs.WellFormed.{WellFormed}
 use Rattle.ruling.specs.Forest.{childrenOf}

@@ -13,7 +13,7 @@ use lib.ListN.{length, getD, set, length-set}
 use lib.Seq.{getD-set-same, getD-set-other}
 use Rattle.answer.proofs.Tests.{lt-or-ge}
 use Rattle.combining.specs.Ways.{any}
-use Rattle.table.specs.Layout.{count, span}
+use Rattle.encoding.specs.Layout.{count, span}
 use Rattle.table.specs.Tree.{endOf}
 use Rattle.table.specs.WellFormed.{WellFormed}
 use Rattle.ruling.specs.Forest.{childrenOf}

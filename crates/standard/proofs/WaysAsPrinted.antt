@@ -13,7 +13,7 @@ use Rattle.answer.proofs.Tests.{and-false, or-false}
 use Rattle.combining.specs.Kinds.{onlyOneApplicableKind, permitRuleKind}
 use Rattle.combining.specs.Ways.{notApplicable, permit, deny, indeterminate, Child, absent, decisions, counting, applicable, firstApplicable, sole, onlyOneApplicable, any, permitOverrides, denyOverrides, way}
 use Rattle.combining.proofs.Fold.{pick, absent-first, way-none}
-use Rattle.table.specs.Layout.{count, kind}
+use Rattle.encoding.specs.Layout.{count, kind}
 use Rattle.table.specs.Tree.{isRule}
 use Rattle.table.specs.Reading.{Accepted}
 use Rattle.table.proofs.AcceptedIsWellFormed.{well-formed}

@@ -9,7 +9,7 @@ use mathlib.Core.Path.{_≡_}
 use Prim.Native.Nat.{ℕ}
 use Rattle.combining.specs.Kinds.{firstApplicableKind, onlyOneApplicableKind, permitOverridesKind, denyOverridesKind, permitRuleKind, denyRuleKind}
 use Rattle.combining.specs.Ways.{notApplicable, permit, deny, indeterminate}
-use Rattle.table.specs.Layout.{kind}
+use Rattle.encoding.specs.Layout.{kind}
 use Rattle.standard.specs.AppendixC.{Rule, Policy, matched, unmatched, untold, ruleCombining, isMatched, policyCombining}
 use Rattle.standard.specs.AsPrinted.{asRule}
 

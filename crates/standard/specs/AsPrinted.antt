@@ -3,7 +3,7 @@
 use mathlib.Core.Bool.{Bool, true, false}
 use mathlib.Core.List.{List, map}
 use Prim.Native.Nat.{ℕ}
-use Rattle.table.specs.Layout.{kind}
+use Rattle.encoding.specs.Layout.{kind}
 use Rattle.ruling.specs.Forest.{childrenOf}
 use Rattle.ruling.specs.Meaning.{effect, decision}
 use Rattle.standard.specs.AppendixC.{Rule, Policy, Applicable, matched, unmatched}

@@ -6,7 +6,7 @@ use mathlib.Core.List.{List}
 use mathlib.Core.Path.{_≡_}
 use Prim.Native.Nat.{ℕ, _+_, _≤_, _<_}
 use lib.ListN.{length, getD}
-use Rattle.table.specs.Layout.{count}
+use Rattle.encoding.specs.Layout.{count}
 use Rattle.table.specs.Tree.{isRule, endOf}
 use Rattle.standard.specs.Profile.{mixedGroup, ruleInOnlyOne}
 use Rattle.standard.specs.declared.profile.Found.{Found}

@@ -9,7 +9,7 @@ use Rattle.answer.specs.Refusals.{Refusal, row, upward, settled, None}
 use Rattle.answer.specs.declared.Answer.{Answer}
 use Rattle.combining.specs.Kinds.{onlyOneApplicableKind}
 use Rattle.combining.specs.Ways.{any}
-use Rattle.table.specs.Layout.{count, kind}
+use Rattle.encoding.specs.Layout.{count, kind}
 use Rattle.table.specs.Tree.{isRule}
 use Rattle.table.specs.Reading.{tableRefusals}
 use Rattle.ruling.specs.Forest.{childrenOf}

@@ -1,17 +1,17 @@
 // Which of refusals 14, 15 and 16 an accepted table gets, and where: one pass over its nodes, from the last to the first.
 use answer::Answer;
 use combining::Kind;
-use table::layout::NODES;
-use table::layout::count_at;
-use table::layout::kind_at;
-use table::layout::span_at;
+use encoding::layout::NODES;
+use encoding::layout::count_at;
+use encoding::layout::kind_at;
+use encoding::layout::span_at;
 use table::reading::rule_at;
 ghost use mathlib.Core.Path.{_≡_};
 ghost use mathlib.Core.Bool.{not, cond, _&&_};
 ghost use Prim.Native.Nat.{_+_, _<_};
 ghost use lib.Dec.{eqb};
 ghost use lib.ListN.{set};
-ghost use Rattle.table.specs.Layout.{count};
+ghost use Rattle.encoding.specs.Layout.{count};
 ghost use Rattle.table.specs.WellFormed.{WellFormed};
 ghost use Rattle.standard.specs.Profile.{profiled};
 ghost use Rattle.standard.specs.Pass.{FoundFrom};

@@ -11,7 +11,7 @@ use Rattle.answer.specs.Answers.{refused, counted}
 use Rattle.answer.specs.Refusals.{Refusal, upward, firstNumber, All, None, First}
 use Rattle.answer.specs.declared.Answer.{Answer}
 use Rattle.answer.proofs.Settling.{all-join, all-parts, all-upward, upward-all, all-first, first-in, first-after, first-upward, settled-first, settled-none, Numbered, number-none, number-first}
-use Rattle.table.specs.Layout.{version, count}
+use Rattle.encoding.specs.Layout.{version, count}
 use Rattle.table.specs.Conformance.{conforms}
 use Rattle.table.specs.Reading.{headerRefusals, nodeRefusals, tableRefusals, reading, Accepted}
 use Rattle.table.proofs.Header.{version-passed}

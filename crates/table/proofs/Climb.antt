@@ -12,7 +12,7 @@ use borrow.Author.Tests.{lt-ltb, le-ltb}
 use lib.ListN.{length, getD, set}
 use lib.Seq.{getD-set-same, getD-set-other}
 use Rattle.answer.proofs.Tests.{lt-or-ge}
-use Rattle.table.specs.Layout.{span}
+use Rattle.encoding.specs.Layout.{span}
 use Rattle.table.specs.Tree.{endOf, latest, parent, level, Above, itself, further}
 use Rattle.table.specs.Open.{deepest}
 use Rattle.table.proofs.Tree.{latest-here, latest-next, latest-climb, parent-below, level-root, level-child, above-trans, above-parent, above-level, above-earlier}

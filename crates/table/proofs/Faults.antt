@@ -11,7 +11,7 @@ use borrow.Author.Tests.{lt-ltb, le-ltb, eq-eqb, ne-eqb, ltb-false}
 use lib.Dec.{ltb, eqb}
 use lib.ListN.{length}
 use Rattle.answer.specs.Refusals.{settled, firstNumber}
-use Rattle.table.specs.Layout.{bytesAfter, count, header, start, maximum, kind, span, low, high, HeaderHeld}
+use Rattle.encoding.specs.Layout.{bytesAfter, count, header, start, maximum, kind, span, low, high, HeaderHeld}
 use Rattle.table.specs.Tree.{isRule, endOf, parent, level}
 use Rattle.table.specs.Open.{EndAbove}
 use Rattle.table.specs.Reading.{lengthFault, countFault, kindFault, oddSpan, wrongEnd, spanFault, levelFault, rangeFault, refusalsAfterKind, nodeRefusals}

@@ -11,7 +11,7 @@ use borrow.Author.Tests.{le-ltb, ltb-false, eq-eqb, ne-eqb, eqb-true, eqb-false,
 use lib.Dec.{ltb, eqb}
 use Rattle.answer.specs.Fields.{fields}
 use Rattle.answer.specs.Refusals.{None}
-use Rattle.table.specs.Layout.{maximum, count, kind, span, card, low, high}
+use Rattle.encoding.specs.Layout.{maximum, count, kind, span, card, low, high}
 use Rattle.table.specs.Tree.{isRule, endOf, parent, level}
 use Rattle.table.specs.Reading.{kindFault, oddSpan, wrongEnd, spanFault, levelFault, rangeFault, rangesFault, cardFault, nodeRefusals}
 use Rattle.table.proofs.Tree.{parent-below}

@@ -10,7 +10,7 @@ use borrow.Author.Tests.{le-ltb, ltb-false, eq-eqb, ne-eqb, eqb-true, eqb-false,
 use lib.Dec.{ltb, eqb}
 use lib.ListN.{length}
 use Rattle.answer.specs.Refusals.{None}
-use Rattle.table.specs.Layout.{bytesAfter, version, count, header, start, HeaderHeld}
+use Rattle.encoding.specs.Layout.{bytesAfter, version, count, header, start, HeaderHeld}
 use Rattle.table.specs.Reading.{lengthFault, versionFault, countFault, headerRefusals}
 use Rattle.answer.proofs.Tests.{neither}
 use Rattle.table.proofs.Faults.{length-passed}

@@ -12,7 +12,7 @@ use borrow.Author.Tests.{le-leb, lt-leb}
 use lib.Dec.{leb}
 use lib.ListN.{length, set, length-set}
 use Rattle.answer.proofs.Below.{some-where, some-none}
-use Rattle.table.specs.Layout.{count, span}
+use Rattle.encoding.specs.Layout.{count, span}
 use Rattle.table.specs.Tree.{endOf, level, hasLevel}
 use Rattle.table.specs.Open.{deepest}
 use Rattle.table.specs.WellFormed.{WellFormed}

@@ -1,5 +1,4 @@
 -- What the proofs of several functions use, and the theorems about reading.
-pub mod Places
 pub mod Tree
 pub mod Faults
 pub mod Climb
@@ -10,9 +9,4 @@ pub mod Pass
 pub mod LevelByLevel
 pub mod AcceptedIsWellFormed
 pub mod ParentsAndSpansAgree
-pub mod Maxima
-pub mod RangesReadBack
-pub mod SameBytes
-pub mod NumbersWritten
-pub mod Joined
 pub mod Computing

@@ -6,7 +6,7 @@ use mathlib.Core.List.{List}
 use Prim.Native.Nat.{ℕ, zero, suc, _≤_, _<_}
 use native.Mathlib.Nat.{eq-or-lt-of-le}
 use native.Mathlib.Omega.{arith}
-use Rattle.table.specs.Layout.{span, count}
+use Rattle.encoding.specs.Layout.{span, count}
 use Rattle.table.specs.Tree.{endOf, parent, Above, itself, further}
 use Rattle.table.specs.WellFormed.{WellFormed}
 use Rattle.table.proofs.Tree.{parent-below, parent-reaches}

@@ -15,7 +15,7 @@ use Rattle.answer.specs.Answers.{refused, counted}
 use Rattle.answer.specs.Below.{everyBelow}
 use Rattle.answer.specs.Refusals.{firstNumber, None}
 use Rattle.answer.proofs.Below.{every-next}
-use Rattle.table.specs.Layout.{count, span}
+use Rattle.encoding.specs.Layout.{count, span}
 use Rattle.table.specs.Tree.{isRule, endOf, parent, level, itself}
 use Rattle.table.specs.Open.{deepest, EndAbove}
 use Rattle.table.specs.Conformance.{asksForRules, ruleAsked, nodeConforms, conforms}

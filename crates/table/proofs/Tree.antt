@@ -10,7 +10,7 @@ use native.Mathlib.Omega.{arith}
 use borrow.Author.Tests.{lt-ltb, le-ltb, eq-eqb, ne-eqb}
 use lib.Dec.{eqb}
 use Rattle.answer.proofs.Tests.{lt-or-ge}
-use Rattle.table.specs.Layout.{span}
+use Rattle.encoding.specs.Layout.{span}
 use Rattle.table.specs.Tree.{endOf, latest, parent, levelWithin, level, Above, itself, further}
 
 module _ (t : List ℕ) where

@@ -7,7 +7,7 @@ use Prim.Native.Nat.{ℕ, _+_}
 use lib.Dec.{eqb}
 use Rattle.answer.specs.Below.{everyBelow}
 use Rattle.combining.specs.Kinds.{onlyOneApplicableKind}
-use Rattle.table.specs.Layout.{count, kind}
+use Rattle.encoding.specs.Layout.{count, kind}
 use Rattle.table.specs.Tree.{isRule, parent}
 
 -- that no group "holds rules and groups" and no "'only one' group holds a rule": a group asks for rules where its first child is one, unless it

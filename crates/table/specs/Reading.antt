@@ -11,7 +11,7 @@ use Rattle.answer.specs.Answers.{refused, counted}
 use Rattle.answer.specs.Refusals.{Refusal, row, upward, settled, None}
 use Rattle.answer.specs.declared.Answer.{Answer}
 use Rattle.combining.specs.Kinds.{denyRuleKind}
-use Rattle.table.specs.Layout.{bytesAfter, version, maximum, count, header, start, kind, span, card, low, high}
+use Rattle.encoding.specs.Layout.{bytesAfter, version, maximum, count, header, start, kind, span, card, low, high}
 use Rattle.table.specs.Tree.{isRule, endOf, parent, level}
 
 -- 1: "under 8 bytes, or slice length isn't bytes 0-1 plus 2"

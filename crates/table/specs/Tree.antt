@@ -6,7 +6,7 @@ use Prim.Native.Nat.{ℕ, zero, suc, _+_, _<_}
 use lib.Dec.{eqb, leb, ltb}
 use Rattle.answer.specs.Below.{someBelow}
 use Rattle.combining.specs.Kinds.{permitRuleKind}
-use Rattle.table.specs.Layout.{count, kind, span}
+use Rattle.encoding.specs.Layout.{count, kind, span}
 
 -- "Kinds 4 and 5 are rules". A kind over 5 is refused before this is asked.
 abbrev pub isRule : List ℕ → ℕ → Bool

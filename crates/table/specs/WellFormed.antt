@@ -5,7 +5,7 @@ use mathlib.Core.Path.{_≡_}
 use Prim.Native.Nat.{ℕ, _≤_, _<_}
 use lib.ListN.{length}
 use Rattle.answer.specs.Fields.{fields}
-use Rattle.table.specs.Layout.{maximum, count, start, kind, span, card, low, high}
+use Rattle.encoding.specs.Layout.{maximum, count, start, kind, span, card, low, high}
 use Rattle.table.specs.Tree.{endOf, level}
 
 pub record WellFormed (t : List ℕ) : Type 0 where

@@ -1,8 +1,8 @@
 // The levels of an accepted table's nodes.
-use crate::layout::LEVELS;
-use crate::layout::count_at;
-use crate::layout::span_at;
 use crate::reading::depth_above;
+use encoding::layout::LEVELS;
+use encoding::layout::count_at;
+use encoding::layout::span_at;
 ghost use mathlib.Core.Path.{_≡_};
 ghost use Rattle.table.specs.Tree.{hasLevel};
 ghost use Rattle.table.specs.WellFormed.{WellFormed};

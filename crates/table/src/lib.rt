@@ -1,7 +1,5 @@
-// Tables of rules: their bytes, reading them, the levels of their nodes, and writing numbers into them.
-pub mod layout;
+// Tables of rules: reading them, and the levels of their nodes.
 pub mod levels;
 pub mod reading;
-pub mod writing;
 
 pub use reading::read;

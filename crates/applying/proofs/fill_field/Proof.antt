@@ -3,7 +3,7 @@
 use mathlib.Core.Path.{subst, _∙_}
 use native.Mathlib.Omega.{arith}
 use borrow.Author.Needs.{needs}
-use Rattle.table.proofs.Places.{header-held}
+use Rattle.encoding.proofs.Places.{header-held}
 use Rattle.applying.specs.Filled.{KeptPastMaximum}
 use Rattle.applying.proofs.Filling.{with-runs}
 use Rattle.applying.proofs.fill_field.Statement.{statement}

@@ -5,7 +5,7 @@ use Prim.Native.Nat.{_+_, _-_, _<_}
 use native.Mathlib.Omega.{arith}
 use borrow.Author.Needs.{needs}
 use lib.Seq.{drop-set-lt}
-use Rattle.table.proofs.Places.{header-held}
+use Rattle.encoding.proofs.Places.{header-held}
 use Rattle.applying.specs.Filled.{KeptPastMaximum}
 use Rattle.applying.proofs.Filling.{ValuesBelow, no-value, one-value, all-values}
 use Rattle.applying.proofs.fill_values.Statement.{statement}

@@ -5,7 +5,7 @@ use Prim.Native.Nat.{_+_, _-_}
 use native.Mathlib.Omega.{arith}
 use borrow.Author.Needs.{needs}
 use Rattle.table.specs.Tree.{endOf}
-use Rattle.table.proofs.Places.{header-held, node-held}
+use Rattle.encoding.proofs.Places.{header-held, node-held}
 use Rattle.applying.proofs.FieldAlone.{MembersBelow, walk-starts, walk-ends, node-in, nodes-out}
 use Rattle.applying.proofs.members.Statement.{statement}
 use Rattle.applying.proofs.members.Tie as tie

@@ -9,10 +9,10 @@ use borrow.Fn.Kinds.{In}
 use borrow.Fn.PlainCycle.{Measures, is, falls, and}
 use Rattle.combining.proofs.Running.start.Reads as start-reads
 use Rattle.combining.proofs.Running.take.Reads as take-reads
-use Rattle.table.specs.Layout.{count}
+use Rattle.encoding.specs.Layout.{count}
 use Rattle.table.specs.WellFormed.{WellFormed}
-use Rattle.table.proofs.layout.kind_at.Reads as kind-at-reads
-use Rattle.table.proofs.layout.span_at.Reads as span-at-reads
+use Rattle.encoding.proofs.layout.kind_at.Reads as kind-at-reads
+use Rattle.encoding.proofs.layout.span_at.Reads as span-at-reads
 use Rattle.ruling.proofs.Steps.{held}
 use Rattle.ruling.proofs.Decisions.{takes, ruled-rule}
 use Rattle.ruling.proofs.groups.effect_of.Reads as effect-of-reads

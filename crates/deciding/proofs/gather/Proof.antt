@@ -6,9 +6,9 @@ use mathlib.Core.List.{List}
 use Prim.Native.Nat.{ℕ, _-_, _<_}
 use native.Mathlib.Omega.{arith}
 use borrow.Author.Needs.{needs}
-use Rattle.table.specs.Layout.{count, NodeHeld}
+use Rattle.encoding.specs.Layout.{count, NodeHeld}
 use Rattle.table.specs.WellFormed.{WellFormed}
-use Rattle.table.proofs.Places.{header-held}
+use Rattle.encoding.proofs.Places.{header-held}
 use Rattle.ruling.proofs.Steps.{held}
 use Rattle.sets.specs.Sets.{most, has}
 use Rattle.deciding.proofs.CardByCard.{Before, before-first, after-rule, after-group, before-end, stored-few, as-long}

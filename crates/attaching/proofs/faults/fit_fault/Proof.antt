@@ -8,7 +8,7 @@ use Rattle.answer.specs.Refusals.{here, later}
 use Rattle.answer.proofs.Settling.{settled-first, settled-none}
 use Rattle.table.specs.Tree.{isRule}
 use Rattle.table.specs.WellFormed.{WellFormed}
-use Rattle.table.proofs.Places.{header-held, node-held}
+use Rattle.encoding.proofs.Places.{header-held, node-held}
 use Rattle.attaching.specs.Attached.{headersDiffer, fitRefusals}
 use Rattle.attaching.proofs.FitFaults.{versions-same}
 use Rattle.attaching.proofs.faults.fit_fault.Statement.{statement}

@@ -8,8 +8,8 @@ use native.Mathlib.Omega.{arith}
 use borrow.Author.Needs.{needs}
 use Rattle.answer.specs.Below.{someBelow}
 use Rattle.answer.specs.Fields.{fields}
-use Rattle.table.specs.Layout.{version, HeaderHeld}
-use Rattle.table.proofs.Places.{version-there}
+use Rattle.encoding.specs.Layout.{version, HeaderHeld}
+use Rattle.encoding.proofs.Places.{version-there}
 use Rattle.attaching.proofs.FitFaults.{differs, version-differs, maximum-differs, headers-same, same-more}
 use Rattle.attaching.proofs.faults.headers_differ.Statement.{statement}
 use Rattle.attaching.proofs.faults.headers_differ.Tie as tie

@@ -5,9 +5,9 @@ use mathlib.Core.List.{List}
 use Prim.Native.Nat.{ℕ}
 use native.Mathlib.Omega.{arith}
 use borrow.Author.Needs.{needs}
-use Rattle.table.specs.Layout.{version}
+use Rattle.encoding.specs.Layout.{version}
 use Rattle.table.specs.WellFormed.{WellFormed}
-use Rattle.table.proofs.Places.{header-held}
+use Rattle.encoding.proofs.Places.{header-held}
 use Rattle.attaching.proofs.FitFaults.{too-many, by-levels}
 use Rattle.attaching.proofs.faults.too_large.Statement.{statement}
 use Rattle.attaching.proofs.faults.too_large.Tie as tie

@@ -2,7 +2,7 @@
 -- Assumes nothing.
 use native.Mathlib.Omega.{arith}
 use borrow.Author.Needs.{needs}
-use Rattle.table.proofs.Places.{header-held}
+use Rattle.encoding.proofs.Places.{header-held}
 use Rattle.attaching.proofs.BytesFitted.{size-is, size-small}
 use Rattle.attaching.proofs.writing.attached_size.Statement.{statement}
 use Rattle.attaching.proofs.writing.attached_size.Tie as tie

@@ -5,7 +5,7 @@ use Prim.Native.Nat.{ℕ, _≤_}
 use native.Mathlib.Omega.{arith}
 use borrow.Author.Needs.{needs}
 use lib.ListN.{length}
-use Rattle.table.proofs.Places.{header-held}
+use Rattle.encoding.proofs.Places.{header-held}
 use Rattle.attaching.specs.Attached.{joined}
 use Rattle.attaching.proofs.Copied.{part-fits, base-fits, copied-both}
 use Rattle.attaching.proofs.writing.join.Statement.{statement}

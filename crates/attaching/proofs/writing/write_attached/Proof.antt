@@ -7,9 +7,9 @@ use native.Mathlib.Omega.{arith}
 use borrow.Author.Needs.{needs}
 use lib.ListN.{length}
 use Rattle.answer.specs.Answers.{zeros}
-use Rattle.table.specs.Writing.{withBytesAfter, withCount, withSpan}
+use Rattle.encoding.specs.Writing.{withBytesAfter, withCount, withSpan}
 use Rattle.table.specs.WellFormed.{WellFormed}
-use Rattle.table.proofs.Places.{header-held}
+use Rattle.encoding.proofs.Places.{header-held}
 use Rattle.attaching.specs.Attached.{joined, nodes}
 use Rattle.attaching.proofs.BytesFitted.{rest, length-attached, joined-long}
 use Rattle.attaching.proofs.Copied.{copied-there, long-there, root-there, written-all}

@@ -8,7 +8,7 @@ use borrow.Author.Needs.{needs}
 use lib.ListN.{length, set, length-set}
 use lib.Seq.{sets}
 use Rattle.answer.specs.Fields.{fields}
-use Rattle.table.proofs.Maxima.{maxima-length}
+use Rattle.encoding.proofs.Maxima.{maxima-length}
 use Rattle.diagram.specs.Layout as diagram-layout
 use Rattle.entering.proofs.NumbersWritten.{rest-length, rest-kept, rest-stored}
 use Rattle.building.proofs.header.write_header.Statement.{statement}

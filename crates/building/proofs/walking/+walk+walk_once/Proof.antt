@@ -12,8 +12,8 @@ use Rattle.answer.specs.Fields.{fields}
 use Rattle.sets.specs.Sets.{has}
 use Rattle.sets.specs.declared.Set.{Set}
 use Rattle.sets.proofs.Set.meet.Reads as meet-reads
-use Rattle.table.specs.Layout.{maximum}
-use Rattle.table.proofs.layout.maximum_at.Reads as maximum-at-reads
+use Rattle.encoding.specs.Layout.{maximum}
+use Rattle.encoding.proofs.layout.maximum_at.Reads as maximum-at-reads
 use Rattle.applying.specs.Members.{rulingFrom}
 use Rattle.applying.proofs.run_end.Reads as run-end-reads
 use Rattle.applying.proofs.set_at.Reads as set-at-reads

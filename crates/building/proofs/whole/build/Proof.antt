@@ -7,7 +7,7 @@ use native.Mathlib.Omega.{arith}
 use borrow.Author.Needs.{needs}
 use lib.ListN.{length}
 use Rattle.answer.specs.Answers.{zeros}
-use Rattle.table.specs.Layout.{HeaderHeld}
+use Rattle.encoding.specs.Layout.{HeaderHeld}
 use Rattle.table.specs.Reading.{Accepted}
 use Rattle.table.proofs.Accepting.{read-accepted, read-refused}
 use Rattle.table.proofs.AcceptedIsWellFormed.{well-formed}

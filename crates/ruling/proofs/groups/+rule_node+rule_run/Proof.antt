@@ -9,7 +9,7 @@ use native.Mathlib.Omega.{arith}
 use borrow.Author.Needs.{needs}
 use borrow.Fn.Kinds.{In}
 use borrow.Fn.PlainCycle.{Measures, is, falls, and}
-use Rattle.table.specs.Layout.{count, span, NodeHeld}
+use Rattle.encoding.specs.Layout.{count, span, NodeHeld}
 use Rattle.table.specs.Tree.{endOf}
 use Rattle.table.specs.WellFormed.{WellFormed}
 use Rattle.ruling.specs.Subjects.{appliesToSome}
@@ -22,8 +22,8 @@ use Rattle.ruling.proofs.Decisions.{takes}
 use Rattle.ruling.proofs.ChildByChild.{Before, before-first, before-end, before-some, before-within, before-next, before-skipped}
 use Rattle.combining.proofs.Running.start.Reads as start-reads
 use Rattle.combining.proofs.Running.take.Reads as take-reads
-use Rattle.table.proofs.layout.kind_at.Reads as kind-at-reads
-use Rattle.table.proofs.layout.short_span_at.Reads as short-span-at-reads
+use Rattle.encoding.proofs.layout.kind_at.Reads as kind-at-reads
+use Rattle.encoding.proofs.layout.short_span_at.Reads as short-span-at-reads
 use Rattle.ruling.proofs.groups.rule_node.Reads as rule-node
 use Rattle.ruling.proofs.groups.rule_node.Kinds as rule-node-kinds
 use Rattle.ruling.proofs.groups.+rule_node+rule_run.Lts-rule_node as rule-node-lts

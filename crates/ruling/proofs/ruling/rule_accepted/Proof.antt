@@ -13,9 +13,9 @@ use Rattle.answer.specs.Requests.{fieldFault}
 use Rattle.answer.specs.Rulings.{Ruling}
 use Rattle.answer.proofs.RequestRefusals.{asked-before, asked-over, asked-short, asked-ruled}
 use Rattle.answer.proofs.Stored.{stored-cleared}
-use Rattle.table.specs.Layout.{maximum}
-use Rattle.table.proofs.Places.{header-held}
-use Rattle.table.proofs.Maxima.{maxima-length, maxima-each, maxima-fault}
+use Rattle.encoding.specs.Layout.{maximum}
+use Rattle.encoding.proofs.Places.{header-held}
+use Rattle.encoding.proofs.Maxima.{maxima-length, maxima-each, maxima-fault}
 use Rattle.ruling.specs.Subjects.{subjectsFault}
 use Rattle.ruling.specs.Ruling.{groupsTogether, subjectsRefusal}
 use Rattle.ruling.proofs.ruling.rule_accepted.Statement.{statement}

@@ -6,9 +6,9 @@ use Prim.Native.Nat.{ℕ, _+_, _-_, _≤_, _<_}
 use native.Mathlib.Omega.{arith}
 use borrow.Author.Needs.{needs}
 use Rattle.answer.specs.Answers.{counted}
-use Rattle.table.specs.Layout.{count}
+use Rattle.encoding.specs.Layout.{count}
 use Rattle.table.specs.Tree.{isRule}
-use Rattle.table.proofs.Places.{header-held, node-held}
+use Rattle.encoding.proofs.Places.{header-held, node-held}
 use Rattle.standard.specs.Pass.{FoundFrom}
 use Rattle.standard.proofs.Pass.{found-none, found-mixed, found-in-only-one, found-rule-root, found-nothing}
 use Rattle.standard.proofs.profile.read_profile.Statement.{statement}

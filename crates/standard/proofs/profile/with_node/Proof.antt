@@ -8,9 +8,9 @@ use borrow.Author.Needs.{needs}
 use lib.Dec.{eqb}
 use lib.ListN.{getD}
 use Rattle.combining.specs.Kinds.{onlyOneApplicableKind}
-use Rattle.table.specs.Layout.{count, kind, NodeHeld}
+use Rattle.encoding.specs.Layout.{count, kind, NodeHeld}
 use Rattle.table.specs.Tree.{endOf}
-use Rattle.table.proofs.Places.{node-held}
+use Rattle.encoding.proofs.Places.{node-held}
 use Rattle.standard.proofs.Pass.{with-rule, with-group}
 use Rattle.standard.proofs.profile.with_node.Statement.{statement}
 use Rattle.standard.proofs.profile.with_node.Tie as tie

@@ -9,7 +9,7 @@ use Rattle.answer.specs.Answers.{counted}
 use Rattle.table.specs.Reading.{Accepted}
 use Rattle.table.proofs.Accepting.{found-accepted, found-refused, found-conforms}
 use Rattle.table.proofs.AcceptedIsWellFormed.{well-formed}
-use Rattle.table.proofs.Places.{header-held}
+use Rattle.encoding.proofs.Places.{header-held}
 use Rattle.standard.proofs.Accepting.{standard-refused, standard-after, standard-counted}
 use Rattle.standard.proofs.ConformingIsStandard.{conforming-standard}
 use Rattle.standard.proofs.standard.read_standard.Statement.{statement}

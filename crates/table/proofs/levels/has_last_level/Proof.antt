@@ -7,7 +7,7 @@ use Prim.Native.Nat.{ℕ, _+_, _-_, _<_}
 use native.Mathlib.Omega.{arith}
 use borrow.Author.Needs.{needs}
 use Rattle.table.specs.WellFormed.{WellFormed}
-use Rattle.table.proofs.Places.{header-held, node-held}
+use Rattle.encoding.proofs.Places.{header-held, node-held}
 use Rattle.table.proofs.LevelByLevel as pass
 use Rattle.table.proofs.levels.has_last_level.Statement.{statement}
 use Rattle.table.proofs.levels.has_last_level.Tie as tie

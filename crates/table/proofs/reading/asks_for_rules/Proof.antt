@@ -8,10 +8,10 @@ use native.Mathlib.Omega.{arith}
 use borrow.Author.Needs.{needs}
 use borrow.Author.Tests.{eq-eqb, ne-eqb}
 use Rattle.combining.specs.Kinds.{onlyOneApplicableKind}
-use Rattle.table.specs.Layout.{kind}
+use Rattle.encoding.specs.Layout.{kind}
 use Rattle.table.specs.Tree.{isRule}
 use Rattle.table.specs.Conformance.{asksForRules}
-use Rattle.table.proofs.Places.{number-small}
+use Rattle.encoding.proofs.Places.{number-small}
 use Rattle.table.proofs.reading.asks_for_rules.Statement.{statement}
 use Rattle.table.proofs.reading.asks_for_rules.Tie as tie
 

@@ -1,7 +1,7 @@
 -- `table::reading::count_fault` meets its contract: each branch gives refusal 3's test.
 -- Assumes nothing.
 use borrow.Author.Needs.{needs}
-use Rattle.table.proofs.Places.{start-fits}
+use Rattle.encoding.proofs.Places.{start-fits}
 use Rattle.table.proofs.Faults.{count-none, count-many, count-other}
 use Rattle.table.proofs.reading.count_fault.Statement.{statement}
 use Rattle.table.proofs.reading.count_fault.Tie as tie

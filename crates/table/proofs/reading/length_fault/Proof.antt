@@ -2,7 +2,7 @@
 -- Assumes nothing.
 use native.Mathlib.Omega.{arith}
 use borrow.Author.Needs.{needs}
-use Rattle.table.proofs.Places.{version-there}
+use Rattle.encoding.proofs.Places.{version-there}
 use Rattle.table.proofs.Faults.{length-short, length-other}
 use Rattle.table.proofs.reading.length_fault.Statement.{statement}
 use Rattle.table.proofs.reading.length_fault.Tie as tie

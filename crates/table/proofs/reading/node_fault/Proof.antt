@@ -4,7 +4,7 @@ use mathlib.Core.Path.{sym}
 use native.Mathlib.Omega.{arith}
 use borrow.Author.Tests.{le-leb, lt-leb}
 use borrow.Author.Needs.{needs}
-use Rattle.table.specs.Layout.{kind}
+use Rattle.encoding.specs.Layout.{kind}
 use Rattle.table.proofs.Faults.{fault-later, fault-kind}
 use Rattle.table.proofs.reading.node_fault.Statement.{statement}
 use Rattle.table.proofs.reading.node_fault.Tie as tie

@@ -3,7 +3,7 @@
 use mathlib.Core.List.{List}
 use Prim.Native.Nat.{ℕ}
 use borrow.Author.Needs.{needs}
-use Rattle.table.proofs.Places.{node-header}
+use Rattle.encoding.proofs.Places.{node-header}
 use Rattle.table.proofs.Faults.{range-low, range-high}
 use Rattle.table.proofs.reading.range_fault.Statement.{statement}
 use Rattle.table.proofs.reading.range_fault.Tie as tie

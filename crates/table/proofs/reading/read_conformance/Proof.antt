@@ -12,12 +12,12 @@ use lib.Dec.{eqb}
 use lib.ListN.{getD}
 use Rattle.answer.specs.Answers.{refused}
 use Rattle.answer.specs.Refusals.{None}
-use Rattle.table.specs.Layout.{NodeHeld}
+use Rattle.encoding.specs.Layout.{NodeHeld}
 use Rattle.table.specs.Tree.{level}
 use Rattle.table.specs.Open.{EndAbove}
 use Rattle.table.specs.Conformance.{ruleAsked, conforms}
 use Rattle.table.specs.Reading.{headerRefusals, nodeRefusals, reading}
-use Rattle.table.proofs.Places.{node-held}
+use Rattle.encoding.proofs.Places.{node-held}
 use Rattle.table.proofs.Accepting.{header-passed, node-passed, header-refused}
 use Rattle.table.proofs.Header.{headed}
 use Rattle.table.proofs.Good.{good}

@@ -5,7 +5,7 @@ use Prim.Native.Nat.{ℕ}
 use native.Mathlib.Omega.{arith}
 use native.Mathlib.Nat.{pos-of-ne-zero}
 use borrow.Author.Needs.{needs}
-use Rattle.table.proofs.Places.{number-small}
+use Rattle.encoding.proofs.Places.{number-small}
 use Rattle.table.proofs.Faults.{span-odd, span-root, span-past, span-inside}
 use Rattle.table.proofs.reading.span_fault.Statement.{statement}
 use Rattle.table.proofs.reading.span_fault.Tie as tie

@@ -3,7 +3,7 @@
 use mathlib.Core.Path.{refl}
 use native.Mathlib.Omega.{arith}
 use Rattle.table.specs.Reading.{versionFault}
-use Rattle.table.proofs.Places.{version-there}
+use Rattle.encoding.proofs.Places.{version-there}
 use Rattle.table.proofs.reading.version_fault.Statement.{statement}
 use Rattle.table.proofs.reading.version_fault.Tie as tie
 

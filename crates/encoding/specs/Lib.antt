@@ -1,0 +1,4 @@
+pub mod Layout
+pub mod Ranges
+pub mod SameNode
+pub mod Writing
