@@ -13,8 +13,8 @@ use Rattle.answer.proofs.Tests.{lt-or-ge}
 use Rattle.encoding.specs.Layout.{span, count}
 use Rattle.table.specs.Tree.{endOf}
 use Rattle.table.specs.WellFormed.{WellFormed}
-use Rattle.ruling.specs.Walk.{HoldAbove}
-use Rattle.ruling.proofs.Throughout.{throughout-under, throughout-is, pass-root, pass-down, pass-after}
+use Rattle.targets.specs.Targets.{HoldAbove}
+use Rattle.targets.proofs.Throughout.{throughout-under, throughout-is, pass-root, pass-down, pass-after}
 use Rattle.sets.specs.Sets.{has, Has}
 use Rattle.sets.specs.declared.Set.{Set}
 use Rattle.applying.specs.Members.{rangeHolds, appliesIn, member}

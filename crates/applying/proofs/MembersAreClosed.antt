@@ -9,10 +9,10 @@ use borrow.Author.Tests.{lt-ltb}
 use lib.Dec.{ltb}
 use Rattle.encoding.specs.Layout.{count}
 use Rattle.table.specs.WellFormed.{WellFormed}
-use Rattle.ruling.proofs.Throughout.{throughout-down}
+use Rattle.targets.proofs.Throughout.{throughout-down}
 use Rattle.sets.specs.Sets.{most, has, Has}
 use Rattle.sets.specs.declared.Set.{Set}
-use Rattle.ruling.specs.Closed.{Closed}
+use Rattle.targets.specs.Closed.{Closed}
 use Rattle.applying.specs.Members.{rangeHolds, appliesIn, member}
 
 module _ (t : List ℕ) where

@@ -13,10 +13,10 @@ use Rattle.answer.specs.Requests.{value}
 use Rattle.encoding.specs.Layout.{count}
 use Rattle.table.specs.WellFormed.{WellFormed}
 use Rattle.answer.specs.Below.{everyBelow}
-use Rattle.ruling.specs.Targets.{targetHolds, applies}
+use Rattle.targets.specs.Targets.{targetHolds, applies}
 use Rattle.ruling.specs.Ruling.{groups}
 use Rattle.ruling.proofs.RulingGoesByWhichApply.{meaning-same}
-use Rattle.ruling.proofs.Throughout.{throughout, throughout-true, throughout-and}
+use Rattle.targets.proofs.Throughout.{throughout, throughout-true, throughout-and}
 use Rattle.applying.specs.Members.{rangeHolds, appliesIn, member, still, rulingFrom}
 
 -- the first number of a test of each

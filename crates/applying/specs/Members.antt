@@ -8,7 +8,7 @@ use Rattle.answer.specs.Rulings.{Ruling}
 use Rattle.encoding.specs.Layout.{low, high, count}
 use Rattle.table.specs.Tree.{endOf}
 use Rattle.answer.specs.Below.{everyBelow}
-use Rattle.ruling.specs.Targets.{inRange}
+use Rattle.targets.specs.Targets.{inRange}
 use Rattle.ruling.specs.Meaning.{meaning}
 
 -- "low and high [..], both ends included": value v lies in node i's range of field f

@@ -14,8 +14,8 @@ use Rattle.table.specs.Reading.{Accepted}
 use Rattle.table.specs.WellFormed.{WellFormed}
 use Rattle.table.proofs.AcceptedIsWellFormed.{well-formed}
 use Rattle.ruling.specs.Forest.{childrenOf}
-use Rattle.ruling.specs.Targets.{targetHolds, applies}
-use Rattle.ruling.specs.Subjects.{mostSubjects, member, appliesToSome}
+use Rattle.targets.specs.Targets.{targetHolds, applies}
+use Rattle.targets.specs.Subjects.{mostSubjects, member, appliesToSome}
 use Rattle.ruling.specs.Ruling.{groups, groupsTogether}
 use Rattle.attaching.specs.Attached.{attachedBytes, Attaches, attached, attachedTable}
 use Rattle.attaching.specs.Fitted.{Fitted}

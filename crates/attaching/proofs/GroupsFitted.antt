@@ -21,8 +21,8 @@ use Rattle.encoding.specs.SameNode.{SameNode}
 use Rattle.table.specs.WellFormed.{WellFormed}
 use Rattle.table.proofs.AcceptedIsWellFormed.{well-formed}
 use Rattle.ruling.specs.Forest.{under, childrenOf}
-use Rattle.ruling.specs.Targets.{inRange, fieldHolds, targetHolds, applies}
-use Rattle.ruling.specs.Subjects.{mostSubjects, member, appliesToSome}
+use Rattle.targets.specs.Targets.{inRange, fieldHolds, targetHolds, applies}
+use Rattle.targets.specs.Subjects.{mostSubjects, member, appliesToSome}
 use Rattle.ruling.specs.Meaning.{gives, childOf, children, decision, cardsFrom, cards, meaning}
 use Rattle.ruling.specs.Ruling.{groups, groupsTogether}
 use Rattle.ruling.proofs.Cards.{cards-skip, cards-join}
@@ -30,7 +30,7 @@ use Rattle.ruling.proofs.Decisions.{gives-not}
 use Rattle.ruling.proofs.NodesAlike.{Agree, gives-same, decision-same, cards-same}
 use Rattle.ruling.proofs.ChildrenByParents.{EachOf, children-each}
 use Rattle.ruling.proofs.DecisionByChildren.{children-decide}
-use Rattle.ruling.proofs.Applies.{applies-where, applies-each, applies-under}
+use Rattle.targets.proofs.Applies.{applies-where, applies-each, applies-under}
 use Rattle.attaching.specs.Fitted.{Fitted}
 use Rattle.attaching.specs.Meaning.{meaningWith, appliesUnder, appliesToSomeUnder, groupsWith, groupsTogetherWith}
 use Rattle.attaching.proofs.Trees.{root-end, base-inside, base-reaches, base-reached, expansion-end, last-child}

@@ -5,8 +5,8 @@ use mathlib.Core.List.{List, [], _∷_, _++_}
 use Prim.Native.Nat.{ℕ}
 use Rattle.answer.specs.Rulings.{Ruling}
 use Rattle.ruling.specs.Forest.{under}
-use Rattle.ruling.specs.Targets.{targetHolds, applies}
-use Rattle.ruling.specs.Subjects.{someMember, appliesToSome}
+use Rattle.targets.specs.Targets.{targetHolds, applies}
+use Rattle.targets.specs.Subjects.{someMember, appliesToSome}
 use Rattle.ruling.specs.Meaning.{gives, childOf, children, decision, cards}
 
 -- "the expansion's root as the last child of the base root": what the base's root gives of its own children and then the expansion's root, and the

@@ -15,7 +15,7 @@ use Rattle.combining.proofs.NeverIndeterminate.{none-clear}
 use Rattle.encoding.specs.Layout.{Bytes, maximum, maxima, kind}
 use Rattle.table.specs.Reading.{Accepted}
 use Rattle.encoding.proofs.Maxima.{maxima-length, maxima-bytes}
-use Rattle.ruling.specs.Targets.{applies}
+use Rattle.targets.specs.Targets.{applies}
 use Rattle.ruling.specs.Ruling.{groups}
 use Rattle.ruling.proofs.NeverIndeterminate.{decision-clear}
 use Rattle.diagram.specs.Layout.{mostPlaces}

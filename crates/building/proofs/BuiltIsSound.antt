@@ -9,7 +9,7 @@ use Rattle.answer.specs.Fields.{fields}
 use Rattle.encoding.specs.Layout.{Bytes, maxima}
 use Rattle.table.specs.Reading.{Accepted}
 use Rattle.encoding.proofs.Maxima.{maxima-length, maxima-bytes}
-use Rattle.ruling.specs.Targets.{applies}
+use Rattle.targets.specs.Targets.{applies}
 use Rattle.ruling.specs.Ruling.{groups}
 use Rattle.ruling.proofs.DecisionIsOneOfFour.{meaning-below}
 use Rattle.ruling.proofs.AtMost127Cards.{at-most-127-cards}

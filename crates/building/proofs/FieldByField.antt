@@ -15,7 +15,7 @@ use Rattle.encoding.specs.Layout.{maximum, maxima, HeaderHeld}
 use Rattle.table.specs.WellFormed.{WellFormed}
 use Rattle.encoding.proofs.Places.{header-held}
 use Rattle.encoding.proofs.Maxima.{maxima-length, maxima-each}
-use Rattle.ruling.specs.Closed.{Closed}
+use Rattle.targets.specs.Closed.{Closed}
 use Rattle.applying.specs.Members.{member, rulingFrom}
 use Rattle.applying.specs.Filled.{setAt, runEnd, Filled}
 use Rattle.applying.proofs.MembersAreClosed.{member-closed, meet-closed, has-closed}

@@ -29,7 +29,7 @@ ghost use Rattle.answer.specs.Answers.{zeros};
 ghost use Rattle.sets.specs.Sets.{has};
 ghost use Rattle.table.specs.WellFormed.{WellFormed};
 ghost use Rattle.ruling.specs.Meaning.{meaning};
-ghost use Rattle.ruling.specs.Closed.{Closed};
+ghost use Rattle.targets.specs.Closed.{Closed};
 ghost use Rattle.applying.specs.Filled.{Filled};
 ghost use Rattle.diagram.specs.Layout.{header, mostPlaces};
 ghost use Rattle.diagram.specs.Entries.{terminal};

@@ -20,7 +20,7 @@ use Rattle.ruling.specs.Walk.{SpansInside}
 use Rattle.ruling.proofs.Forest.{whole-under, whole-after}
 use Rattle.ruling.proofs.Decisions.{ruled-group, over, over-start, over-none, over-more, over-skip}
 use Rattle.sets.specs.Sets.{most, Next}
-use Rattle.ruling.specs.Closed.{Closed}
+use Rattle.targets.specs.Closed.{Closed}
 
 -- What holds before a child of group i, which ends at end: the group's decision is the way of the running decision r, the child and
 -- those after it, and the child is in the set or past the end.

@@ -21,7 +21,7 @@ ghost use Rattle.sets.specs.Sets.{has};
 ghost use Rattle.encoding.specs.Layout.{count};
 ghost use Rattle.table.specs.WellFormed.{WellFormed};
 ghost use Rattle.ruling.specs.Meaning.{decision, cards, meaning};
-ghost use Rattle.ruling.specs.Closed.{Closed};
+ghost use Rattle.targets.specs.Closed.{Closed};
 
 // The decision of node i, which is in the set.
 fn decide(table: &[u8], ways: &Ways, applying: Set, i: usize) -> u8

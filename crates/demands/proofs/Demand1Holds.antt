@@ -12,7 +12,7 @@ use Rattle.answer.proofs.Settling.{answers}
 use Rattle.encoding.specs.Layout.{maxima, count}
 use Rattle.table.specs.Reading.{tableRefusals}
 use Rattle.table.proofs.Accepting.{accepted-reading}
-use Rattle.ruling.specs.Subjects.{size}
+use Rattle.targets.specs.Subjects.{size}
 use Rattle.ruling.specs.Ruling.{groups, groupsTogether, rulingRefusals}
 use Rattle.diagram.specs.Layout.{used}
 use Rattle.diagram.specs.LookUp.{ruledBy}

@@ -4,7 +4,7 @@ use mathlib.Core.List.{List}
 use Prim.Native.Nat.{ℕ}
 use Rattle.encoding.specs.Layout.{maximum}
 use Rattle.table.specs.Reading.{tableRefusals, Accepted}
-use Rattle.ruling.specs.Subjects.{appliesToSome, size, AskedWithin}
+use Rattle.targets.specs.Subjects.{appliesToSome, size, AskedWithin}
 use Rattle.ruling.specs.Ruling.{groupsTogether, ruling, ruledList}
 use Rattle.ruling.proofs.ChildrenByParents.{children-by-parents}
 use Rattle.ruling.proofs.DecisionByChildren.{decision-by-children}

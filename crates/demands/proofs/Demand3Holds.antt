@@ -17,12 +17,12 @@ use Rattle.table.specs.Reading.{Accepted}
 use Rattle.table.proofs.AcceptedIsWellFormed.{well-formed}
 use Rattle.table.proofs.Computing.{table-computes}
 use Rattle.ruling.specs.Forest.{childrenFrom}
-use Rattle.ruling.specs.Targets.{targetHolds, applies}
-use Rattle.ruling.specs.Subjects.{appliesToSome, size, AskedWithin}
+use Rattle.targets.specs.Targets.{targetHolds, applies}
+use Rattle.targets.specs.Subjects.{appliesToSome, size, AskedWithin}
 use Rattle.ruling.specs.Meaning.{gives, childOf, decision, cardsFrom, cards, meaning}
 use Rattle.ruling.specs.Ruling.{groups, groupsTogether}
-use Rattle.ruling.proofs.Throughout.{pass-root}
-use Rattle.ruling.proofs.AppliesByParents.{applies-by-parents}
+use Rattle.targets.proofs.Throughout.{pass-root}
+use Rattle.targets.proofs.AppliesByParents.{applies-by-parents}
 use Rattle.ruling.proofs.Cards.{matches-group, cards-none, cards-more}
 use Rattle.ruling.proofs.CardsOfMatchingRules.{each-listed, number-of-cards}
 use Rattle.ruling.proofs.DecisionAsWorded.{decision-as-worded}

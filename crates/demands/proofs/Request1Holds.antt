@@ -5,9 +5,9 @@ use Prim.Native.Nat.{ℕ, _^_, _<_}
 use Rattle.answer.specs.Answers.{ruled, padded}
 use Rattle.answer.specs.Rulings.{answerOf}
 use Rattle.encoding.specs.Layout.{maximum}
-use Rattle.ruling.specs.Subjects.{mostSubjects, size}
+use Rattle.targets.specs.Subjects.{mostSubjects, size}
 use Rattle.ruling.specs.Ruling.{groups, ruling, ruledList}
-use Rattle.ruling.proofs.SubjectsByParents.{applies-to-some-by-parents}
+use Rattle.targets.proofs.SubjectsByParents.{applies-to-some-by-parents}
 use Rattle.ruling.proofs.OneSubject.{size-one, one-subject, one-asked}
 use Rattle.diagram.specs.LookedUp.{lookedUp, lookedUpList}
 use Rattle.demands.specs.Words.{WithinFields, LongEnough, Builds, usedPart}

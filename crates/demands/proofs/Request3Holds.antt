@@ -8,9 +8,9 @@ use Rattle.answer.proofs.Settling.{answers}
 use Rattle.combining.proofs.Fold.{pick}
 use Rattle.encoding.specs.Layout.{count, kind}
 use Rattle.table.proofs.AcceptedIsWellFormed.{well-formed}
-use Rattle.ruling.specs.Subjects.{size}
+use Rattle.targets.specs.Subjects.{size}
 use Rattle.ruling.specs.Ruling.{groupsTogether}
-use Rattle.ruling.proofs.AppliesIsClosed.{applies-closed, applies-to-some-closed}
+use Rattle.targets.proofs.AppliesIsClosed.{applies-closed, applies-to-some-closed}
 use Rattle.standard.specs.Profile.{standardRefusals}
 use Rattle.standard.specs.RulingStandard.{rulingStandardRefusals}
 use Rattle.standard.proofs.Accepting.{standard-accepted}

@@ -1,7 +1,7 @@
 -- Request 4 is met.
 use Rattle.encoding.specs.Ranges.{rangesWord}
 use Rattle.encoding.proofs.RangesReadBack.{ranges-fit, reads-back}
-use Rattle.ruling.proofs.TargetFromWord.{target-from}
+use Rattle.targets.proofs.TargetFromWord.{target-from}
 use Rattle.demands.specs.Request4.{Request4}
 
 pub request-4 : Request4

@@ -1,7 +1,7 @@
 -- Request 7 is met, and its cases.
 use mathlib.Core.Path.{refl}
 use Rattle.table.proofs.Good.{ranges-within}
-use Rattle.ruling.proofs.InRange.{unwrapped-members, wrapped-members, all-members, ends-included}
+use Rattle.targets.proofs.InRange.{unwrapped-members, wrapped-members, all-members, ends-included}
 use Rattle.standard.proofs.Computing.{profile-computes}
 use Rattle.demands.specs.Request7.{Request7, Request7Cases}
 use Rattle.demands.proofs.Computing.{cases-compute}

@@ -13,7 +13,7 @@ use Rattle.answer.specs.Refusals.{Answers}
 use Rattle.answer.specs.Rulings.{answerOf}
 use Rattle.encoding.specs.Layout.{count}
 use Rattle.table.specs.Reading.{tableRefusals, reading, Accepted}
-use Rattle.ruling.specs.Subjects.{size}
+use Rattle.targets.specs.Subjects.{size}
 use Rattle.ruling.specs.Ruling.{groupsTogether, rulingRefusals, ruling, ruledList}
 use Rattle.diagram.specs.Layout.{used}
 use Rattle.diagram.specs.LookUp.{ruledBy}

@@ -13,7 +13,7 @@ use Rattle.combining.specs.Ways.{notApplicable, permit, deny, indeterminate}
 use Rattle.encoding.specs.Layout.{maximum, count, card}
 use Rattle.table.specs.Reading.{Accepted}
 use Rattle.ruling.specs.Forest.{under, childrenOf, trees}
-use Rattle.ruling.specs.Subjects.{appliesToSome, size, AskedWithin}
+use Rattle.targets.specs.Subjects.{appliesToSome, size, AskedWithin}
 use Rattle.ruling.specs.Meaning.{gives, childOf, decision, matches, matching}
 use Rattle.ruling.specs.Ruling.{groupsTogether, rulingRefusals, ruling, ruledList}
 use Rattle.demands.specs.Words.{LongEnough, Rules}

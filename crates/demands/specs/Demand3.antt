@@ -14,8 +14,8 @@ use Rattle.combining.specs.Ways.{notApplicable}
 use Rattle.encoding.specs.Layout.{maximum, maxima, count, card}
 use Rattle.table.specs.Tree.{isRule, Above}
 use Rattle.table.specs.Reading.{Accepted}
-use Rattle.ruling.specs.Targets.{targetHolds, applies}
-use Rattle.ruling.specs.Subjects.{size, AskedWithin}
+use Rattle.targets.specs.Targets.{targetHolds, applies}
+use Rattle.targets.specs.Subjects.{size, AskedWithin}
 use Rattle.ruling.specs.Meaning.{matches, matching}
 use Rattle.ruling.specs.AsWorded.{decisionAsWorded}
 use Rattle.ruling.specs.Ruling.{groups}

@@ -9,8 +9,8 @@ use Rattle.combining.specs.Ways.{notApplicable, permit, deny}
 use Rattle.encoding.specs.Layout.{count}
 use Rattle.table.specs.Tree.{Above}
 use Rattle.table.specs.Reading.{Accepted}
-use Rattle.ruling.specs.Targets.{targetHolds}
-use Rattle.ruling.specs.Subjects.{mostSubjects, member, appliesToSome, size}
+use Rattle.targets.specs.Targets.{targetHolds}
+use Rattle.targets.specs.Subjects.{mostSubjects, member, appliesToSome, size}
 use Rattle.ruling.specs.Ruling.{groups, groupsTogether, ruling, ruledList}
 use Rattle.diagram.specs.LookedUp.{lookedUp, lookedUpList}
 use Rattle.demands.specs.Words.{WithinFields, LongEnough, Builds, usedPart}

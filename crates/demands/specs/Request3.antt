@@ -14,9 +14,9 @@ use Rattle.encoding.specs.Layout.{count, kind}
 use Rattle.table.specs.Tree.{isRule}
 use Rattle.table.specs.Reading.{reading, Accepted}
 use Rattle.ruling.specs.Forest.{childrenOf}
-use Rattle.ruling.specs.Targets.{applies}
-use Rattle.ruling.specs.Closed.{Closed}
-use Rattle.ruling.specs.Subjects.{appliesToSome, size}
+use Rattle.targets.specs.Targets.{applies}
+use Rattle.targets.specs.Closed.{Closed}
+use Rattle.targets.specs.Subjects.{appliesToSome, size}
 use Rattle.ruling.specs.Meaning.{decision}
 use Rattle.ruling.specs.Ruling.{groupsTogether, ruling, ruledList}
 use Rattle.standard.specs.Profile.{holdsRule, holdsGroup, standardRefusals, Standard, readingStandard}

@@ -5,7 +5,7 @@ use Prim.Native.Nat.{ℕ, _^_, _<_}
 use Rattle.answer.specs.Fields.{fields}
 use Rattle.encoding.specs.Layout.{Bytes, low, high}
 use Rattle.encoding.specs.Ranges.{rangesWord, lowOf, highOf}
-use Rattle.ruling.specs.Targets.{targetHolds, targetHoldsFrom}
+use Rattle.targets.specs.Targets.{targetHolds, targetHoldsFrom}
 
 pub record Request4 : Type 0 where
   -- "into one word": of 64 bits

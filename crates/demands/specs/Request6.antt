@@ -12,8 +12,8 @@ use Rattle.encoding.specs.Layout.{version, count}
 use Rattle.table.specs.Tree.{parent, level, hasLevel}
 use Rattle.table.specs.Reading.{Accepted}
 use Rattle.ruling.specs.Forest.{childrenOf}
-use Rattle.ruling.specs.Targets.{targetHolds, applies}
-use Rattle.ruling.specs.Subjects.{mostSubjects, member, appliesToSome}
+use Rattle.targets.specs.Targets.{targetHolds, applies}
+use Rattle.targets.specs.Subjects.{mostSubjects, member, appliesToSome}
 use Rattle.ruling.specs.Ruling.{groups, groupsTogether}
 use Rattle.standard.specs.Profile.{holdsRule, Standard, readingStandard}
 use Rattle.attaching.specs.Attached.{attachedBytes, attachRefusals, attached, attachedTable, Attaches}

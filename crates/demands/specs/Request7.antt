@@ -10,7 +10,7 @@ use Rattle.answer.specs.Answers.{refused, counted, ruled}
 use Rattle.combining.specs.Ways.{notApplicable, permit}
 use Rattle.encoding.specs.Layout.{maximum, low, high}
 use Rattle.table.specs.Reading.{rangesFault, reading}
-use Rattle.ruling.specs.Targets.{inRange}
+use Rattle.targets.specs.Targets.{inRange}
 use Rattle.building.specs.Built.{builtDiagram}
 use Rattle.demands.specs.Tables.{seats, seatsApart}
 use Rattle.demands.specs.Outcomes.{otherValues, request, only, GivesRuling, GivesStandard, GivesLookUp, EqualDiagrams}

@@ -11,12 +11,12 @@ use Rattle.table.specs.Tree.{isRule}
 use Rattle.table.specs.Reading.{Accepted}
 use Rattle.table.specs.WellFormed.{WellFormed}
 use Rattle.table.proofs.AcceptedIsWellFormed.{well-formed}
-use Rattle.ruling.specs.Targets.{targetHolds, applies}
+use Rattle.targets.specs.Targets.{targetHolds, applies}
 use Rattle.ruling.specs.Meaning.{decision}
 use Rattle.ruling.specs.AsWorded.{holdsAsWorded, decisionAsWorded}
-use Rattle.ruling.specs.Walk.{HoldAbove}
-use Rattle.ruling.proofs.Applies.{applies-is, applies-above}
-use Rattle.ruling.proofs.Throughout.{pass-after}
+use Rattle.targets.specs.Targets.{HoldAbove}
+use Rattle.targets.proofs.Applies.{applies-is, applies-above}
+use Rattle.targets.proofs.Throughout.{pass-after}
 use Rattle.ruling.proofs.NodesAlike.{Agree, decision-same}
 
 module _ (t q : List ℕ) (w : WellFormed t) where

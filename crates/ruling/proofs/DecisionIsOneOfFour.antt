@@ -6,7 +6,7 @@ use Prim.Native.Nat.{ℕ, _<_}
 use lib.Dec.{lit<}
 use Rattle.answer.specs.Refusals.{Refusal}
 use Rattle.answer.proofs.RequestRefusals.{ruled-so}
-use Rattle.ruling.specs.Subjects.{appliesToSome, size}
+use Rattle.targets.specs.Subjects.{appliesToSome, size}
 use Rattle.ruling.specs.Meaning.{meaning}
 use Rattle.ruling.specs.Ruling.{groupsTogether, ruledAfter}
 use Rattle.ruling.proofs.Decisions.{decision-below}

@@ -22,7 +22,7 @@ use Rattle.answer.specs.Rulings.{Ruling, valueRefusals, listRefusal, answerOf, 
 use Rattle.answer.specs.declared.Answer.{Answer}
 use Rattle.answer.proofs.Settling.{all-join, all-upward, all-first, first-or-none, settled-first, settled-none, refused-before, settled-later, Numbered}
 use Rattle.encoding.specs.Layout.{maximum}
-use Rattle.ruling.specs.Subjects.{size}
+use Rattle.targets.specs.Subjects.{size}
 use Rattle.ruling.specs.Ruling.{groupsTogether, askedRefusals, ruledAfter, listedAfter, forSubjects}
 
 -- a request has a value for each field but the subject

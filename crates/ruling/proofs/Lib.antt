@@ -1,21 +1,11 @@
 -- What the proofs of several functions use, and the theorems about ruling.
 pub mod Forest
-pub mod InRange
-pub mod FieldByField
-pub mod TargetFromWord
-pub mod SubjectsInRange
-pub mod Throughout
-pub mod Applies
 pub mod MembersLeft
 pub mod Cards
 pub mod Decisions
 pub mod Steps
 pub mod NodeByKind
 pub mod ChildByChild
-pub mod Members
-pub mod AppliesIsClosed
-pub mod AppliesByParents
-pub mod SubjectsByParents
 pub mod ChildrenByParents
 pub mod DecisionByChildren
 pub mod CardsOfMatchingRules

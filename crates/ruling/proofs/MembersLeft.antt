@@ -10,12 +10,12 @@ use Rattle.sets.proofs.WordPlaces.{bit-none}
 use Rattle.encoding.specs.Layout.{span, count}
 use Rattle.table.specs.Tree.{endOf}
 use Rattle.table.specs.WellFormed.{WellFormed}
-use Rattle.ruling.specs.Targets.{targetHolds, applies}
-use Rattle.ruling.specs.Subjects.{mostSubjects, member, appliesToSome}
+use Rattle.targets.specs.Targets.{targetHolds, applies}
+use Rattle.targets.specs.Subjects.{mostSubjects, member, appliesToSome}
 use Rattle.ruling.specs.Walk.{MembersPass, AppliesToEach}
-use Rattle.ruling.proofs.Applies.{applies-is, applies-under, applies-above, above-after}
-use Rattle.ruling.proofs.Throughout.{pass-root}
-use Rattle.ruling.proofs.SubjectsInRange.{some-in}
+use Rattle.targets.proofs.Applies.{applies-is, applies-under, applies-above, above-after}
+use Rattle.targets.proofs.Throughout.{pass-root}
+use Rattle.targets.proofs.SubjectsInRange.{some-in}
 
 module _ (t others : List ℕ) where
   -- for each member, every target holds above the root, above the first child of a node that applies to it, and above the node after all under one

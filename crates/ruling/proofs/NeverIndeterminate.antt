@@ -15,7 +15,7 @@ use Rattle.combining.proofs.Fold.{folds}
 use Rattle.combining.proofs.NeverIndeterminate.{way-clear, none-clear, taken-clear}
 use Rattle.encoding.specs.Layout.{kind}
 use Rattle.ruling.specs.Forest.{under}
-use Rattle.ruling.specs.Subjects.{appliesToSome, size}
+use Rattle.targets.specs.Subjects.{appliesToSome, size}
 use Rattle.ruling.specs.Meaning.{children, decision, runningDecision}
 use Rattle.ruling.specs.Ruling.{groupsTogether, ruledAfter}
 use Rattle.ruling.proofs.Decisions.{gives-not, gives-group, children-below}

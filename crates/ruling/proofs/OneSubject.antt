@@ -17,10 +17,10 @@ use Rattle.table.specs.Reading.{Accepted}
 use Rattle.table.proofs.AcceptedIsWellFormed.{well-formed}
 use Rattle.sets.specs.Sets.{bit}
 use Rattle.sets.proofs.WordPlaces.{bit-only}
-use Rattle.ruling.specs.Targets.{applies}
-use Rattle.ruling.specs.Subjects.{mostSubjects, member, someMember, appliesToSome, size, subjectsFault, AskedWithin}
+use Rattle.targets.specs.Targets.{applies}
+use Rattle.targets.specs.Subjects.{mostSubjects, member, someMember, appliesToSome, size, subjectsFault, AskedWithin}
 use Rattle.ruling.specs.Ruling.{groups, groupsTogether}
-use Rattle.ruling.proofs.Members.{some-member, no-member}
+use Rattle.targets.proofs.Members.{some-member, no-member}
 use Rattle.ruling.proofs.RulingGoesByWhichApply.{meaning-same}
 
 -- of the numbers below n one is k, where k is among them

@@ -13,7 +13,7 @@ use Rattle.table.specs.Tree.{endOf}
 use Rattle.table.specs.Reading.{Accepted}
 use Rattle.table.specs.WellFormed.{WellFormed}
 use Rattle.table.proofs.AcceptedIsWellFormed.{well-formed}
-use Rattle.ruling.specs.Targets.{applies}
+use Rattle.targets.specs.Targets.{applies}
 use Rattle.ruling.specs.Meaning.{decision, cardsFrom, meaning}
 use Rattle.ruling.specs.Ruling.{groups}
 use Rattle.ruling.specs.Walk.{Gathered}

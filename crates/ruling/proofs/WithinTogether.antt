@@ -21,9 +21,9 @@ use Rattle.answer.proofs.Tests.{neither}
 use Rattle.answer.proofs.Settling.{all-join, all-parts, answers}
 use Rattle.answer.proofs.RequestRefusals.{within-none, none-within}
 use Rattle.encoding.specs.Layout.{maximum}
-use Rattle.ruling.specs.Subjects.{mostSubjects, member, someMember, size, subjectsFault, AskedWithin}
+use Rattle.targets.specs.Subjects.{mostSubjects, member, someMember, size, subjectsFault, AskedWithin}
 use Rattle.ruling.specs.Ruling.{groupsTogether, askedRefusals, ruledAfter, listedAfter}
-use Rattle.ruling.proofs.Members.{no-member}
+use Rattle.targets.proofs.Members.{no-member}
 
 -- 13 does not apply exactly where the set has a member and each is at most the maximum
 pub subjects-pass : (m s : ℕ) →

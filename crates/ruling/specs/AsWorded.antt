@@ -5,7 +5,7 @@ use mathlib.Core.Bool.{Bool, cond}
 use mathlib.Core.List.{List}
 use Prim.Native.Nat.{ℕ}
 use Rattle.table.specs.Tree.{isRule}
-use Rattle.ruling.specs.Targets.{targetHolds, applies}
+use Rattle.targets.specs.Targets.{targetHolds, applies}
 use Rattle.ruling.specs.Meaning.{decision}
 
 -- "A matching rule gives its effect, any other rule none. A group whose target fails gives none."; paper 2, "a group child counts when its target

@@ -11,8 +11,8 @@ use Rattle.answer.specs.Rulings.{Ruling, requestRefusals, ruledOr, listedOr}
 use Rattle.answer.specs.declared.Answer.{Answer}
 use Rattle.encoding.specs.Layout.{maximum}
 use Rattle.table.specs.Reading.{tableRefusals}
-use Rattle.ruling.specs.Targets.{applies}
-use Rattle.ruling.specs.Subjects.{appliesToSome, size, subjectsFault}
+use Rattle.targets.specs.Targets.{applies}
+use Rattle.targets.specs.Subjects.{appliesToSome, size, subjectsFault}
 use Rattle.ruling.specs.Meaning.{meaning}
 
 -- "The groups give a question the decision under 'How a table rules' [..], the cards of all matching rules in table order": a question of one

@@ -3,24 +3,14 @@
 use mathlib.Core.Bool.{Bool, true}
 use mathlib.Core.List.{List, _∷_}
 use mathlib.Core.Path.{_≡_}
-use Prim.Native.Nat.{ℕ, suc, _+_, _-_, _≤_, _<_}
+use Prim.Native.Nat.{ℕ, _+_, _-_, _≤_, _<_}
 use lib.ListN.{length}
 use lib.Seq.{sets}
-use Rattle.answer.specs.Below.{everyBelow}
-use Rattle.answer.specs.Fields.{fields}
 use Rattle.encoding.specs.Layout.{count}
 use Rattle.table.specs.Tree.{endOf}
-use Rattle.ruling.specs.Targets.{targetHolds, fieldHoldsFrom, applies}
-use Rattle.ruling.specs.Subjects.{member}
+use Rattle.targets.specs.Targets.{targetHolds, applies, HoldAbove}
+use Rattle.targets.specs.Subjects.{member}
 use Rattle.ruling.specs.Meaning.{cardsFrom}
-
--- the values of all fields but the first, the subject, lie in the ranges of the word w
-unfoldable pub othersHoldFrom : ℕ → List ℕ → Bool
-othersHoldFrom w others = everyBelow (fields - 1) (λ f. fieldHoldsFrom w (0 ∷ others) (suc f))
-
--- h, the test of a node's own target, passes at every node above node i
-abbrev pub HoldAbove : List ℕ → (ℕ → Bool) → ℕ → Type 0
-HoldAbove t h i = (j : ℕ) → j < i → i < endOf t j → h j ≡ true
 
 -- What the walk carries to node i: for each member of the set s that is left, every target above it holds.
 abbrev pub MembersPass : List ℕ → ℕ → List ℕ → ℕ → Type 0

@@ -1,5 +1,4 @@
 // Decisions and cards of nodes, in one walk down the tree: each node that is reached is tested once.
-use crate::targets::members_left;
 use answer::OTHERS;
 use combining::Decision;
 use combining::Kind;
@@ -9,6 +8,7 @@ use encoding::layout::card_at;
 use encoding::layout::count_at;
 use encoding::layout::kind_at;
 use encoding::layout::short_span_at;
+use targets::members_left;
 ghost use mathlib.Core.Path.{_≡_};
 ghost use Prim.Native.Nat.{_+_, _<_};
 ghost use lib.ListN.{length, set};
@@ -18,7 +18,7 @@ ghost use Rattle.combining.specs.Table.{Combines};
 ghost use Rattle.encoding.specs.Layout.{card, NodeHeld};
 ghost use Rattle.table.specs.WellFormed.{WellFormed};
 ghost use Rattle.ruling.specs.Forest.{run};
-ghost use Rattle.ruling.specs.Subjects.{appliesToSome};
+ghost use Rattle.targets.specs.Subjects.{appliesToSome};
 ghost use Rattle.ruling.specs.Meaning.{effect, children, decision};
 ghost use Rattle.ruling.specs.Ruling.{groupsTogether};
 ghost use Rattle.ruling.specs.Walk.{MembersPass, AppliesToEach, Node, ChildRun, Gathered};

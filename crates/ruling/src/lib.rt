@@ -1,7 +1,6 @@
 // Ruling by a table's groups, with every matching card.
 pub mod groups;
 mod ruling;
-pub mod targets;
 
 pub use ruling::for_subjects;
 pub use ruling::rule;

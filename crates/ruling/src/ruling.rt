@@ -1,6 +1,5 @@
 // Ruling by groups: refusals 1 to 8, 13, 9 and 10 in order, or the decision and the cards.
 use crate::groups::rule_read;
-use crate::targets::subjects_fault;
 use answer::Answer;
 use answer::FIELDS;
 use answer::JointRequest;
@@ -10,6 +9,7 @@ use answer::field_fault;
 use encoding::layout::maxima_at;
 use sets::ones_at;
 use table::read;
+use targets::subjects_fault;
 ghost use mathlib.Core.Path.{_≡_};
 ghost use Prim.Native.Nat.{_-_};
 ghost use lib.ListN.{length};
@@ -17,7 +17,7 @@ ghost use Rattle.answer.specs.Answers.{zeros};
 ghost use Rattle.answer.specs.Fields.{fields};
 ghost use Rattle.answer.specs.Rulings.{ruledOr};
 ghost use Rattle.table.specs.WellFormed.{WellFormed};
-ghost use Rattle.ruling.specs.Subjects.{size};
+ghost use Rattle.targets.specs.Subjects.{size};
 ghost use Rattle.ruling.specs.Ruling.{groupsTogether, askedRefusals, forSubjects, listedAfter, ruling, ruledList};
 
 // Rules on several subjects together by an accepted table, where the other fields have these values, with a list that was cleared: refusals 13,

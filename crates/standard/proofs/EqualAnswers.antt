@@ -10,7 +10,7 @@ use Rattle.answer.proofs.Settling.{settled-none, settled-after}
 use Rattle.encoding.specs.Layout.{count}
 use Rattle.table.specs.Reading.{tableRefusals, reading}
 use Rattle.table.proofs.Accepting.{accepted-reading}
-use Rattle.ruling.specs.Subjects.{size}
+use Rattle.targets.specs.Subjects.{size}
 use Rattle.ruling.specs.Ruling.{groupsTogether, askedRefusals, ruling, ruledList}
 use Rattle.standard.specs.Profile.{standardRefusals, Standard, readingStandard}
 use Rattle.standard.specs.RulingStandard.{rulingStandard, ruledListStandard}

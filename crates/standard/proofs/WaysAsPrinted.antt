@@ -18,7 +18,7 @@ use Rattle.table.specs.Tree.{isRule}
 use Rattle.table.specs.Reading.{Accepted}
 use Rattle.table.proofs.AcceptedIsWellFormed.{well-formed}
 use Rattle.ruling.specs.Forest.{under, childrenOf}
-use Rattle.ruling.specs.Closed.{Closed}
+use Rattle.targets.specs.Closed.{Closed}
 use Rattle.ruling.specs.Meaning.{gives, childOf, children, decision}
 use Rattle.ruling.proofs.ChildrenByParents.{EachOf, children-each}
 use Rattle.ruling.proofs.DecisionByChildren.{decision-by-children}

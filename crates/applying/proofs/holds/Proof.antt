@@ -2,7 +2,7 @@
 -- Assumes nothing.
 use mathlib.Core.Path.{_∙_}
 use borrow.Author.Needs.{needs}
-use Rattle.ruling.proofs.TargetFromWord.{range-from}
+use Rattle.targets.proofs.TargetFromWord.{range-from}
 use Rattle.applying.proofs.holds.Statement.{statement}
 use Rattle.applying.proofs.holds.Tie as tie
 

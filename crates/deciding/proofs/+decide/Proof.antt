@@ -18,7 +18,7 @@ use Rattle.ruling.proofs.Decisions.{takes, ruled-rule}
 use Rattle.ruling.proofs.groups.effect_of.Reads as effect-of-reads
 use Rattle.sets.specs.Sets.{most, has}
 use Rattle.sets.proofs.Set.next.Reads as next-reads
-use Rattle.ruling.specs.Closed.{Closed}
+use Rattle.targets.specs.Closed.{Closed}
 use Rattle.deciding.proofs.MemberByMember.{Before, before-first, before-child, before-next, before-end, next-within}
 use Rattle.deciding.proofs.decide.Reads as decide
 use Rattle.deciding.proofs.decide.Kinds as decide-kinds

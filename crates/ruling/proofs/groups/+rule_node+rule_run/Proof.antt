@@ -12,7 +12,7 @@ use borrow.Fn.PlainCycle.{Measures, is, falls, and}
 use Rattle.encoding.specs.Layout.{count, span, NodeHeld}
 use Rattle.table.specs.Tree.{endOf}
 use Rattle.table.specs.WellFormed.{WellFormed}
-use Rattle.ruling.specs.Subjects.{appliesToSome}
+use Rattle.targets.specs.Subjects.{appliesToSome}
 use Rattle.ruling.specs.Walk.{MembersPass, AppliesToEach, Node}
 use Rattle.ruling.proofs.Steps.{held, gathered-length, children, first}
 use Rattle.ruling.proofs.NodeByKind.{by-rule, by-group}
@@ -31,7 +31,7 @@ use Rattle.ruling.proofs.groups.rule_run.Reads as rule-run
 use Rattle.ruling.proofs.groups.rule_run.Kinds as rule-run-kinds
 use Rattle.ruling.proofs.groups.+rule_node+rule_run.Lts-rule_run as rule-run-lts
 use Rattle.ruling.proofs.groups.rule_match.Reads as rule-match-reads
-use Rattle.ruling.proofs.targets.members_left.Reads as members-left-reads
+use Rattle.targets.proofs.members_left.Reads as members-left-reads
 use Rattle.ruling.proofs.groups.+rule_node+rule_run.{statement}
 use Rattle.ruling.proofs.groups.+rule_node+rule_run.Tie.{close}
 

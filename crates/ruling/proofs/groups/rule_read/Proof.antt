@@ -12,7 +12,7 @@ use lib.Seq.{sets}
 use Rattle.encoding.specs.Layout.{count}
 use Rattle.table.specs.WellFormed.{WellFormed}
 use Rattle.encoding.proofs.Places.{header-held}
-use Rattle.ruling.specs.Subjects.{appliesToSome}
+use Rattle.targets.specs.Subjects.{appliesToSome}
 use Rattle.ruling.specs.Meaning.{decision, cards}
 use Rattle.ruling.specs.Walk.{AppliesToEach, Node, Gathered}
 use Rattle.ruling.proofs.MembersLeft.{members-root, members-down, left-each, left-applies, left-same, none-left}

@@ -5,7 +5,7 @@ use mathlib.Core.Bool.{cond}
 use borrow.Author.Tests.{eq-eqb, ne-eqb}
 use borrow.Author.Needs.{needs}
 use Rattle.answer.specs.Answers.{refused, ruled}
-use Rattle.ruling.specs.Subjects.{size}
+use Rattle.targets.specs.Subjects.{size}
 use Rattle.ruling.proofs.ruling.for_subjects.Statement.{statement}
 use Rattle.ruling.proofs.ruling.for_subjects.Tie as tie
 

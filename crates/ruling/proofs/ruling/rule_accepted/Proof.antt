@@ -16,7 +16,7 @@ use Rattle.answer.proofs.Stored.{stored-cleared}
 use Rattle.encoding.specs.Layout.{maximum}
 use Rattle.encoding.proofs.Places.{header-held}
 use Rattle.encoding.proofs.Maxima.{maxima-length, maxima-each, maxima-fault}
-use Rattle.ruling.specs.Subjects.{subjectsFault}
+use Rattle.targets.specs.Subjects.{subjectsFault}
 use Rattle.ruling.specs.Ruling.{groupsTogether, subjectsRefusal}
 use Rattle.ruling.proofs.ruling.rule_accepted.Statement.{statement}
 use Rattle.ruling.proofs.ruling.rule_accepted.Tie as tie
