@@ -2,11 +2,12 @@
 use mathlib.Core.Path.{_≡_, refl, sym, ap, _∙_}
 use mathlib.Core.Bool.{Bool, true, false}
 use mathlib.Core.Logic.{_↔_}
-use mathlib.Core.List.{List, [], _++_, map}
+use mathlib.Core.List.{List, [], _∷_, _++_, map}
 use Prim.Native.Nat.{ℕ, _-_, _≤_, _<_}
 use native.Mathlib.Omega.{arith}
-use borrow.Author.Tests.{leb-false}
+use borrow.Author.Tests.{leb-false, lt-leb, le-ltb}
 use lib.ListN.{length}
+use Rattle.answer.specs.Fields.{fields}
 use Rattle.answer.specs.Answers.{counted, ruled, zeros, padded}
 use Rattle.answer.specs.Rulings.{answerOf}
 use Rattle.answer.proofs.SameRuling.{same-ruling}
@@ -38,9 +39,10 @@ use Rattle.building.proofs.BuildAnswers.{none-fits, succeeds-exactly, accepted-
 use Rattle.building.proofs.BuiltAnswersAsGroups.{built-answers}
 use Rattle.building.proofs.EqualExactlyWhenTablesAlike.{equal-exactly-when-tables-alike}
 use Rattle.demands.specs.Words.{WithinFields, LongEnough, Rules, Builds, usedPart, RuleAlike}
+use Rattle.demands.specs.Tables.{emptyRoot}
 use Rattle.demands.specs.Outcomes.{GivesRuling, GivesDiagram}
 use Rattle.demands.specs.Demand3.{Demand3, EmptyRoot, noneRuled, Demand3Cases}
-use Rattle.demands.proofs.Computing.{cases-compute}
+use Rattle.demands.proofs.Computing.{tables-compute, cases-compute}
 use Rattle.demands.proofs.Demand2Holds.{question}
 
 -- through the walk's diagram, which the used part is
@@ -135,11 +137,40 @@ empty-builds t e n l =
     let h = accepted-built t n (e .accepted) (omega (arith, size), omega (arith, size)) in
     (h .0 ∙ ap counted size, h .1 ∙ ap (λ d. padded d n) d)
 
+-- the ranges of such a root end at the maxima
+module _ (kind a b c : ℕ) (few : kind < 4) where
+  empty-accepted : Accepted (emptyRoot kind (a ∷ b ∷ c ∷ []))
+  unfolding tables-compute table-computes
+  empty-accepted =
+      simp (
+        le-ltb 5 kind (omega arith),
+        le-ltb 3 kind (omega arith),
+        le-ltb a 0 (omega arith),
+        le-ltb a a (omega arith),
+        le-ltb b 0 (omega arith),
+        le-ltb b b (omega arith),
+        le-ltb c 0 (omega arith),
+        le-ltb c c (omega arith),
+      )
+      (refl, (refl, (refl, (refl, (refl, (refl, (refl, (refl, tt))))))))
+
+  empty-is : EmptyRoot (emptyRoot kind (a ∷ b ∷ c ∷ []))
+  unfolding tables-compute table-computes
+  empty-is = record { accepted = empty-accepted; alone = refl; group = lt-leb 4 kind few }
+
+each-empty : (kind : ℕ) → kind < 4 → (ms : List ℕ) → length ms ≡ fields → EmptyRoot (emptyRoot kind ms)
+each-empty kind few [] e = absurd (omega arith)
+each-empty kind few (a ∷ []) e = absurd (omega arith)
+each-empty kind few (a ∷ b ∷ []) e = absurd (omega arith)
+each-empty kind few (a ∷ b ∷ c ∷ []) e = empty-is kind a b c few
+each-empty kind few (a ∷ b ∷ c ∷ d ∷ ms) e = absurd (omega arith)
+
 pub demand-3-cases : Demand3Cases
 unfolding cases-compute
 demand-3-cases = record {
   t-into-63 = (refl, refl);
   t-into-64 = (refl, refl);
+  empty-root-accepted = each-empty;
   empty-root = empty-rules;
   empty-root-built = empty-builds;
   empty-root-of-each-kind = pick 4 _ ((refl, refl), ((refl, refl), ((refl, refl), ((refl, refl), tt))));

@@ -8,6 +8,7 @@ use mathlib.Core.Logic.{_↔_}
 use mathlib.Core.Path.{_≡_}
 use Prim.Native.Nat.{ℕ, _≤_, _<_}
 use lib.ListN.{length, getD}
+use Rattle.answer.specs.Fields.{fields}
 use Rattle.answer.specs.Answers.{counted, ruled, zeros, padded}
 use Rattle.answer.specs.Rulings.{Ruling}
 use Rattle.combining.specs.Ways.{notApplicable}
@@ -65,7 +66,9 @@ pub record Demand3Cases : Type 0 where
   -- "Its diagram has 63 places, root at 55": "T into 62 places: refusal 11. Into 63: built." One place more becomes 0.
   pub t-into-63 : GivesDiagram (tableT 3) 63 (counted 63) diagramT
   pub t-into-64 : GivesDiagram (tableT 3) 64 (counted 63) (padded diagramT 64)
-  -- "An empty root: none everywhere": for every set that asks within its maxima and every list
+  -- "An empty root": of each kind of group, with all maxima
+  pub empty-root-accepted : (kind : ℕ) → kind < 4 → (maxima : List ℕ) → length maxima ≡ fields → EmptyRoot (emptyRoot kind maxima)
+  -- "none everywhere": for every set that asks within its maxima and every list
   pub empty-root : (t : List ℕ) → EmptyRoot t → (s : ℕ) (others : List ℕ) → AskedWithin (maximum t) s others →
       (n : ℕ) → GivesRuling t s others n (ruled notApplicable 0 (size s)) (zeros n)
   -- "20 places": in every room that has them
