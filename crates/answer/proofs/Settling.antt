@@ -43,10 +43,12 @@ module _ (P : Refusal → Type 0) where
   pub all_first : (rs : List Refusal) {r : Refusal} → All P rs → First rs r → P r
   all_first (r ∷ rs) a (here e) = a.0
   all_first (s ∷ rs) a (later e f) = all_first rs a.1 f
+  all_first [] {r = r} a x'' = elim x'' [ ]
 
 pub first_in : (xs ys : List Refusal) {r : Refusal} → First xs r → First (xs ++ ys) r
 first_in (x ∷ xs) ys (here e) = here e
 first_in (x ∷ xs) ys (later e f) = later e (first_in xs ys f)
+first_in [] ys {r = r} x' = elim x' [ ]
 
 pub first_after : (xs ys : List Refusal) {r : Refusal} → None xs → First ys r → First (xs ++ ys) r
 first_after [] ys n f = f
@@ -81,6 +83,7 @@ module _ {A : Type 0} (no : ℕ → ℕ → A) (yes : A) where
   unfolding settled
   settled_first (r ∷ rs) (here e) = ap (λ b. cond b (no r.number r.place) (settled no yes rs)) e
   settled_first (s ∷ rs) (later e f) = ap (λ b. cond b (no s.number s.place) (settled no yes rs)) e ∙ settled_first rs f
+  settled_first [] {r = r} x' = elim x' [ ]
 
   pub settled_none : (rs : List Refusal) → None rs → settled no yes rs ≡ yes
   unfolding settled

@@ -1,0 +1,13 @@
+-- `answer::store_bytes` meets its contract: the bytes so far are stored.
+use mathlib.Core.Path.{refl}
+use Prim.Native.Nat.{◌-◌}
+use Rattle.answer.proofs.Stored.{StoredUpTo, stored_none, stored_more, stored_all}
+use Rattle.std.proofs.Common.{arith, rules}
+use Rattle.answer.proofs.store_bytes.Given as goal
+
+-- `answer::store_bytes` meets its contract: the bytes so far are stored.
+abbrev pub invariant-loop-i : goal.invariant-loop-i
+invariant-loop-i l = StoredUpTo l.bytes l.initial.table l.at l.count l.table l.i
+
+abbrev pub decreases-loop-i : goal.decreases-loop-i
+decreases-loop-i l = l.count - l.i

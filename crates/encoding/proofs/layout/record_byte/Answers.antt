@@ -1,0 +1,21 @@
+-- `table::layout::record_byte` meets its contract: the record lies in the table.
+use mathlib.Core.Path.{ap}
+use Prim.Native.Nat.{◌+◌}
+use Rattle.encoding.specs.Layout.{byte, record_byte}
+use Rattle.encoding.proofs.Places.{record_places}
+use Rattle.std.proofs.Common.{arith, rules}
+use Rattle.encoding.proofs.layout.record_byte.Goals as goal
+
+-- UNKNOWN GOAL overflow-add-result
+add-result : tie.Need-overflow-add-result
+add-result c = omega (arith, record_places c.before.before.args.table.now c.before.before.args.i c.before.before.requires.0)
+
+pub start_of-requires : goal.start_of-requires
+start_of-requires c = omega (arith, record_places c.args.table.now c.args.i c.requires.0)
+
+pub bounds-table-start_of : goal.bounds-table-start_of
+bounds-table-start_of c = omega (arith, record_places c.args.table.now c.args.i c.requires.0)
+
+pub returns : goal.returns
+unfolding record_byte
+returns c = ap (λ p. byte c.args.table.now (p + c.args.k)) c.start_of.ensures

@@ -1,0 +1,21 @@
+-- `table::layout::record_word` meets its contract: the record lies in the table.
+use mathlib.Core.Path.{ap, ◌∙◌}
+use Prim.Native.Nat.{◌+◌}
+use Rattle.encoding.specs.Layout.{word, record_word}
+use Rattle.encoding.proofs.Places.{record_places}
+use Rattle.std.proofs.Common.{arith, rules}
+use Rattle.encoding.proofs.layout.record_word.Goals as goal
+
+-- UNKNOWN GOAL overflow-add-word-at
+add-word-at : tie.Need-overflow-add-word-at
+add-word-at c = omega (arith, record_places c.before.before.args.table.now c.before.before.args.i c.before.before.requires.0)
+
+pub start_of-requires : goal.start_of-requires
+start_of-requires c = omega (arith, record_places c.args.table.now c.args.i c.requires.0)
+
+pub word_at-requires : goal.word_at-requires
+word_at-requires c = omega (arith, record_places c.args.table.now c.args.i c.requires.0)
+
+pub returns : goal.returns
+unfolding record_word
+returns c = (c.word_at.ensures.0 ∙ ap (λ p. word c.args.table.now (p + c.args.k)) c.start_of.ensures, c.word_at.ensures.1)

@@ -1,0 +1,36 @@
+-- `table::writing::put_span` meets its contract: the record lies in the table.
+use mathlib.Core.Path.{ap, ◌∙◌}
+use mathlib.Core.List.{List}
+use Prim.Native.Nat.{ℕ, ◌+◌, ◌≤◌}
+use lib.ListN.{length}
+use Rattle.encoding.specs.Layout.{start}
+use Rattle.encoding.specs.Writing.{with_word}
+use Rattle.encoding.proofs.Places.{record_least, record_there}
+use Rattle.std.proofs.Common.{arith, rules}
+use Rattle.encoding.proofs.writing.put_span.Goals as goal
+
+-- where node i's record lies
+module _ (c : tie.After-start-of-arg) where
+  abbrev table : List ℕ
+  table = c.args.table-1.now
+
+  abbrev node : ℕ
+  node = c.args.i
+
+  held : start table node + 5 ≤ length table
+  held = omega (arith, record_least table, record_there table node c.requires)
+
+-- UNKNOWN GOAL overflow-add-put-word
+add-put-word : tie.Need-overflow-add-put-word
+add-put-word c = omega (arith, c.before.start_of_lem.ensures, held c.before.before)
+
+pub start_of-start-requires : goal.start_of-start-requires
+start_of-start-requires c = omega (arith, held c)
+
+pub put_word-requires : goal.put_word-requires
+put_word-requires c = omega (arith, c.start_of-start.ensures, held c)
+
+pub returns : goal.returns
+returns c = let p = c in
+    let s = p in
+    p.put_word.ensures ∙ ap (λ k. with_word (table s) (k + 1) s.args.span) s.start_of-start.ensures
