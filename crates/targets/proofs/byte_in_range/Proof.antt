@@ -10,7 +10,7 @@ returns c =
     let value = c.before in
     let s = value.before in
     met_in_range (2 ^ 8) s.args.low s.ranges.low.fits s.args.high s.args.value
-    value.wrapping-sub-u8.result c.wrapping-sub-u82.result value.wrapping-sub-u8.type-inv c.wrapping-sub-u82.type-inv
+    value.wrapping-sub-u8.result c.wrapping-sub-u82.result value.wrapping-sub-u8.type_inv c.wrapping-sub-u82.type_inv
     value.wrapping-sub-u8.ensures c.wrapping-sub-u82.ensures
 
 pub byte-in-range-spec : {M : Type 1} → statement M

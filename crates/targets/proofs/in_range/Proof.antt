@@ -10,7 +10,7 @@ returns c =
     let value = c.before in
     let s = value.before in
     met_in_range (2 ^ 16) s.args.low (omega (arith, s.ranges.low.fits)) s.args.high s.args.value
-    value.wrapping-sub-u16.result c.wrapping-sub-u162.result value.wrapping-sub-u16.type-inv c.wrapping-sub-u162.type-inv
+    value.wrapping-sub-u16.result c.wrapping-sub-u162.result value.wrapping-sub-u16.type_inv c.wrapping-sub-u162.type_inv
     value.wrapping-sub-u16.ensures c.wrapping-sub-u162.ensures
 
 pub in-range-spec : {M : Type 1} → statement M

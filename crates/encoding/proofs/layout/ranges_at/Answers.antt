@@ -8,10 +8,11 @@ use Rattle.encoding.specs.Ranges.{ReadsBack}
 use Rattle.encoding.proofs.RangesReadBack.{reads_back, RangesGathered, none_gathered, room_for_two, one_more, all_gathered}
 use Rattle.std.proofs.Common.{arith, rules}
 use Rattle.encoding.proofs.layout.ranges_at.Goals as goal
+use Rattle.encoding.proofs.layout.ranges_at.Goals.{After-high_at-high, At-loop-field, In-loop-field, Start}
 
 -- what is known whenever the loop is tested
-module _ (c : tie.At-loop invariant-loop decreases-loop) where
-  abbrev start : tie.Start invariant-loop decreases-loop
+module _ (c : At-loop-field) where
+  abbrev start : Start
   start = c
 
   abbrev table : List ℕ
@@ -25,47 +26,43 @@ module _ (c : tie.At-loop invariant-loop decreases-loop) where
   bytes p = omega (arith, c.shared_slice_known-1.given p)
 
 -- in the loop there is room for two bytes more
-module _ (c : tie.In-loop invariant-loop decreases-loop) where
-  abbrev at-loop : tie.At-loop invariant-loop decreases-loop
+module _ (c : In-loop-field) where
+  abbrev at-loop : At-loop-field
   at-loop = c
 
   room : at-loop.loop-field.word < 2 ^ 48
   room = room_for_two (table at-loop) (node at-loop) at-loop.loop-field.field at-loop.loop-field.word (bytes at-loop) c.loop-field-test.true at-loop.loop-field.inv.1
 
 -- once both ends of a range are read
-module _ (c : tie.After-high-at invariant-loop decreases-loop) where
-  abbrev in-loop : tie.In-loop invariant-loop decreases-loop
+module _ (c : After-high_at-high) where
+  abbrev in-loop : In-loop-field
   in-loop = c
-
--- UNKNOWN GOAL overflow-mul-word
-mul-word : tie.Need-overflow-mul-word invariant-loop decreases-loop
-mul-word c = omega (arith, room (in-loop c))
-
--- UNKNOWN GOAL overflow-add-word
-add-word : tie.Need-overflow-add-word invariant-loop decreases-loop
-add-word c = omega (arith, room (in-loop c))
-
--- UNKNOWN GOAL overflow-mul-word-2
-mul-word-2 : tie.Need-overflow-mul-word-2 invariant-loop decreases-loop
-mul-word-2 c = omega (arith, room (in-loop c))
-
--- UNKNOWN GOAL overflow-add-word-2
-add-word-2 : tie.Need-overflow-add-word-2 invariant-loop decreases-loop
-add-word-2 c = omega (arith, room (in-loop c))
 
 pub loop-field-init : goal.loop-field-init
 loop-field-init c = (omega arith, none_gathered c.args.table.now c.args.i)
 
+pub overflow_mul-word : goal.overflow_mul-word
+overflow_mul-word c = omega (arith, room (in-loop c))
+
+pub overflow_add-word : goal.overflow_add-word
+overflow_add-word c = omega (arith, room (in-loop c))
+
+pub overflow_mul-word-in-loop-field : goal.overflow_mul-word-in-loop-field
+overflow_mul-word-in-loop-field c = omega (arith, room (in-loop c))
+
+pub overflow_add-word-in-loop-field : goal.overflow_add-word-in-loop-field
+overflow_add-word-in-loop-field c = omega (arith, room (in-loop c))
+
 pub loop-field-preserved : goal.loop-field-preserved
 loop-field-preserved c = let l = at-loop (in-loop c) in (
       omega (arith, (in-loop c).loop-field-test.true),
-      one_more (table l) (node l) l.loop-field.field l.loop-field.word c.low_at-low.result c.high_at-high.result _ l.loop-field.inv.1
+      one_more (table (goal.at.loop-field-preserved c).At-loop-field) (node (goal.at.loop-field-preserved c).At-loop-field) l.loop-field.field l.loop-field.word c.low_at-low.result c.high_at-high.result _ l.loop-field.inv.1
           c.low_at-low.ensures c.high_at-high.ensures (omega arith),
     )
 
 pub returns : goal.returns
 returns c = let l = c in
-    let e = all_gathered (table l) (node l) l.loop-field.field l.loop-field.word (omega arith) l.loop-field.invariant.1 in record {
+    let e = all_gathered (table (goal.at.returns c).At-loop-field) (node (goal.at.returns c).At-loop-field) l.loop-field.field l.loop-field.word (omega arith) l.loop-field.invariant.1 in record {
       value = e;
-      reads_back = subst (λ w. ReadsBack w (table l) (node l)) (sym e) (reads_back (table l) (node l) (bytes l));
+      reads_back = subst (λ w. ReadsBack w (table (goal.at.returns c).At-loop-field) (node (goal.at.returns c).At-loop-field)) (sym e) (reads_back (table (goal.at.returns c).At-loop-field) (node (goal.at.returns c).At-loop-field) (bytes (goal.at.returns c).At-loop-field));
     }

@@ -6,12 +6,11 @@ use Rattle.encoding.proofs.Places.{record_places}
 use Rattle.std.proofs.Common.{arith, rules}
 use Rattle.encoding.proofs.layout.record_byte.Goals as goal
 
--- UNKNOWN GOAL overflow-add-result
-add-result : tie.Need-overflow-add-result
-add-result c = omega (arith, record_places c.before.before.args.table.now c.before.before.args.i c.before.before.requires.0)
-
 pub start_of-requires : goal.start_of-requires
 start_of-requires c = omega (arith, record_places c.args.table.now c.args.i c.requires.0)
+
+pub overflow_add-result : goal.overflow_add-result
+overflow_add-result c = omega (arith, record_places c.args.table.now c.args.i c.requires.0)
 
 pub bounds-table-start_of : goal.bounds-table-start_of
 bounds-table-start_of c = omega (arith, record_places c.args.table.now c.args.i c.requires.0)

@@ -6,12 +6,11 @@ use Rattle.encoding.proofs.Places.{record_places}
 use Rattle.std.proofs.Common.{arith, rules}
 use Rattle.encoding.proofs.layout.record_word.Goals as goal
 
--- UNKNOWN GOAL overflow-add-word-at
-add-word-at : tie.Need-overflow-add-word-at
-add-word-at c = omega (arith, record_places c.before.before.args.table.now c.before.before.args.i c.before.before.requires.0)
-
 pub start_of-requires : goal.start_of-requires
 start_of-requires c = omega (arith, record_places c.args.table.now c.args.i c.requires.0)
+
+pub overflow_add-start_of : goal.overflow_add-start_of
+overflow_add-start_of c = omega (arith, record_places c.args.table.now c.args.i c.requires.0)
 
 pub word_at-requires : goal.word_at-requires
 word_at-requires c = omega (arith, record_places c.args.table.now c.args.i c.requires.0)

@@ -4,15 +4,13 @@ use Rattle.encoding.specs.Layout.{count_place, header, record_size, start}
 use Rattle.std.proofs.Common.{arith, rules}
 use Rattle.encoding.proofs.layout.start_of.Goals as goal
 
--- UNKNOWN GOAL overflow-mul-result
-mul-result : tie.Need-overflow-mul-result
+pub overflow_mul-result : goal.overflow_mul-result
 unfolding count_place header record_size start
-mul-result c = omega arith
+overflow_mul-result c = omega arith
 
--- UNKNOWN GOAL overflow-add-result
-add-result : tie.Need-overflow-add-result
+pub overflow_add-result : goal.overflow_add-result
 unfolding count_place header record_size start
-add-result c = omega arith
+overflow_add-result c = omega arith
 
 pub returns : goal.returns
 unfolding count_place header record_size start

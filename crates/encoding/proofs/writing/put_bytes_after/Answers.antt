@@ -4,4 +4,4 @@ use Rattle.std.proofs.Common.{arith, rules}
 use Rattle.encoding.proofs.writing.put_bytes_after.Goals as goal
 
 pub put_word-requires : goal.put_word-requires
-put_word-requires c = omega (arith, version_there c.args.table-1.now c.requires)
+put_word-requires c = omega (arith, version_there c.args.table.now c.requires)

@@ -7,9 +7,9 @@ use Rattle.encoding.proofs.writing.put_count.Goals as goal
 
 pub put_word-requires : goal.put_word-requires
 put_word-requires c = let s = c in
-    omega (arith, c.count_place-place.ensures, count_there s.args.table-1.now s.requires)
+    omega (arith, c.count_place-place.ensures, count_there s.args.table.now s.requires)
 
 pub returns : goal.returns
 returns c = let p = c in
     let s = p in
-    p.put_word.ensures ∙ ap (λ k. with_word s.args.table-1.now k s.args.nodes) p.count_place-place.ensures
+    p.put_word.ensures ∙ ap (λ k. with_word s.args.table.now k s.args.nodes) p.count_place-place.ensures

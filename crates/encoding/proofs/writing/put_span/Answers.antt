@@ -12,7 +12,7 @@ use Rattle.encoding.proofs.writing.put_span.Goals as goal
 -- where node i's record lies
 module _ (c : tie.After-start-of-arg) where
   abbrev table : List ℕ
-  table = c.args.table-1.now
+  table = c.args.table.now
 
   abbrev node : ℕ
   node = c.args.i
@@ -20,12 +20,11 @@ module _ (c : tie.After-start-of-arg) where
   held : start table node + 5 ≤ length table
   held = omega (arith, record_least table, record_there table node c.requires)
 
--- UNKNOWN GOAL overflow-add-put-word
-add-put-word : tie.Need-overflow-add-put-word
-add-put-word c = omega (arith, c.before.start_of_lem.ensures, held c.before.before)
-
 pub start_of-start-requires : goal.start_of-start-requires
 start_of-start-requires c = omega (arith, held c)
+
+pub overflow_add-start : goal.overflow_add-start
+overflow_add-start c = omega (arith, c.start_of-start.ensures, held c)
 
 pub put_word-requires : goal.put_word-requires
 put_word-requires c = omega (arith, c.start_of-start.ensures, held c)

@@ -3,13 +3,11 @@ use Rattle.sets.proofs.NextNumber.{next_low, next_over, next_high, next_end}
 use Rattle.std.proofs.Common.{arith, rules}
 use Rattle.sets.proofs.Set.next.Goals as goal
 
--- UNKNOWN GOAL overflow-add-result
-add-result : tie.Need-overflow-add-result
-add-result c = omega (arith, c.next-at2.ensures.most)
+pub overflow_add-result : goal.overflow_add-result
+overflow_add-result c = omega (arith, c.next_at.ensures.most)
 
--- UNKNOWN GOAL overflow-add-result-2
-add-result-2 : tie.Need-overflow-add-result-2
-add-result-2 c = omega (arith, c.next-at3.ensures.most)
+pub overflow_add-result-then-i-lt-MOST : goal.overflow_add-result-then-i-lt-MOST
+overflow_add-result-then-i-lt-MOST c = omega (arith, c.next_at-then-i-lt-MOST.ensures.most)
 
 pub returns-then-low-lt-WORD : goal.returns-then-low-lt-WORD
 returns-then-low-lt-WORD c = next_low c.args.self c.args.i _ c.next_at-low.ensures c.if-low-lt-WORD.true
