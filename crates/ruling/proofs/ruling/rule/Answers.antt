@@ -7,7 +7,7 @@ use Rattle.answer.specs.Answers.{zeros}
 use Rattle.table.specs.Reading.{table_refusals, Accepted}
 use Rattle.table.proofs.Accepting.{read_accepted, read_refused}
 use Rattle.table.proofs.AcceptedIsWellFormed.{well_formed}
-use Rattle.ruling.proofs.InTwoParts.{others_counted, turned_away, asked_then}
+use Rattle.ruling.proofs.InTwoParts.{turned_away, asked_then}
 use Rattle.std.proofs.Common.{arith, rules}
 use Rattle.ruling.proofs.ruling.rule.Goals as goal
 
@@ -24,7 +24,7 @@ pub rule_accepted-answer-requires : goal.rule_accepted-answer-requires
 rule_accepted-answer-requires c =
     let t = c.args.table.now in
     record {
-      well_formed = (well_formed t (read_accepted t c.read-reading.result c.read-reading.ensures c.if-reading-ne0.false), others_counted c.args.request.others c.well_formed.request.1.0);
+      well_formed = (well_formed t (read_accepted t c.read-reading.result c.read-reading.ensures c.if-reading-ne0.false), search rules);
       cards_value = c.clear.ensures ∙ ap zeros (sym c.clear.auto.list);
     }
 
