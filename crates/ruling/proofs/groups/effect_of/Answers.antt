@@ -8,7 +8,7 @@ use Rattle.std.proofs.Common.{arith, rules}
 use Rattle.ruling.proofs.groups.effect_of.Goals as goal
 
 pub returns-in-4 : goal.returns-in-4
-returns-in-4 c = sym (ap effect c.in-4.keys1)
+returns-in-4 c = sym (ap effect c.in-4.is)
 
 pub returns-in_default : goal.returns-in_default
-returns-in_default c = sym (ap (λ b. cond b permit deny) (ne_eqb c.args.kind 4 c.in_default.rest.1))
+returns-in_default c = sym (ap (λ b. cond b permit deny) (ne_eqb c.args.kind 4 (omega arith)))
