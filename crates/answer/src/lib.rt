@@ -1,4 +1,6 @@
 // What every call shares: the answer it hands back, the request it is asked, and what it is lent to write, cleared and written.
+#![tactic(auto)]
+
 ghost use Rattle.std.specs.Prelude.{◌≡◌, ◌++◌, ◌+◌, ◌≤◌, length};
 ghost use Rattle.std.proofs.lemmas.List.Edits.{sets};
 ghost use Rattle.answer.specs.Fields.{fields};

@@ -1,4 +1,6 @@
 // Decisions, kinds of nodes, and how a group combines its children's decisions.
+#![tactic(auto)]
+
 ghost use Rattle.std.specs.Prelude.{◌≡◌, ◌<◌};
 ghost use Rattle.combining.specs.Ways.{as_child, NeverIndeterminate};
 ghost use Rattle.combining.specs.Running.{Started, Takes, Taken};

@@ -1,4 +1,6 @@
 // The format of a decision diagram.
+#![tactic(auto)]
+
 pub mod layout;
 
 use answer::FIELDS;

@@ -7,7 +7,7 @@ use Prim.Native.Nat.{ℕ, zero, suc, ◌+◌, ◌-◌, ◌/◌, ◌%◌, ◌^◌
 use native.Mathlib.Nat.{mod-lt, zero-lt-suc, eq-zero-or-pos, eq-or-lt_of_le, div-add-mod'}
 use native.Mathlib.Numerals.{add-one}
 use native.Mathlib.Omega.{arith}
-use lib.Bits.{bit_and}
+use lib.Bits.{bit_and as word_and}
 use lib.Count.{count_trailing_zeros, under}
 use lib.Pow.{shr_lt}
 use lib.Dec.{eqb, eqb-zero-suc, eqb-suc-suc}
@@ -97,7 +97,7 @@ module _ (w : ℕ) (lw : w < 2 ^ 64) (some : 0 < w) where
   least_next =
       record { from = omega arith; most = omega (arith, least_within); passes = λ _. first.passes; between = λ j _ l. first.before j l }
 
-  pub least_out : (i : ℕ) → Next 64 (bit w) 0 i → (j : ℕ) → bit (bit_and w (w - 1)) j ≡ bit w j && not (eqb i j)
+  pub least_out : (i : ℕ) → Next 64 (bit w) 0 i → (j : ℕ) → bit (word_and w (w - 1)) j ≡ bit w j && not (eqb i j)
   least_out i n j = bit_and w (w - 1) j ∙ first.but j ∙ ap (λ r. bit w j && not (eqb r j)) (next_one 64 (bit w) 0 (count_trailing_zeros 64 w) i least_next n)
 
 -- of a word from i up

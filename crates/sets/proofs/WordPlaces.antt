@@ -9,7 +9,7 @@ use native.Mathlib.Numerals.{one-add}
 use native.Mathlib.Omega.{arith}
 use borrow.Author.Tests.{eq-eqb, ne_eqb, lt-ltb, le-ltb, lt-leb, le-leb}
 use lib.Arith.{digits_mod}
-use lib.Bits.{bit_and, bit_or, bit_xor, differ, and_step, or_step, xor_step, and_shr, or_shr, xor_shr, and_mask, shifted_half, shifted_even}
+use lib.Bits.{bit_and as word_and, bit_or as word_or, bit_xor as word_xor, differ, and_step, or_step, xor_step, and_shr, or_shr, xor_shr, and_mask, shifted_half, shifted_even}
 use lib.Pow.{pow_mono, pow_pos, shr-shr}
 use lib.Dec.{eqb, ltb, leb, lit<}
 use Rattle.answer.proofs.Tests.{lt_or_ge}
@@ -44,18 +44,18 @@ module _ (op f : ℕ → ℕ → ℕ) (g : Bool → Bool → Bool)
       let m : Means (x % 2) (y % 2) = two (λ d. Means d (y % 2)) (two (Means 0) p q (y % 2) ly) (two (Means 1) r s (y % 2) ly) (x % 2) (mod-lt x (zero-lt-suc 1)) in
       ap (λ n. eqb (n % 2) 1) (shr a b i ∙ step x y) ∙ ap (λ n. eqb n 1) (digits_mod (op (x / 2) (y / 2)) m.0) ∙ m.1
 
-pub bit_and : (a b i : ℕ) → bit (bit_and a b) i ≡ bit a i && bit b i
-bit_and = by_digits bit_and min (λ x y. x && y) and_shr and_step (lit< tt, refl) (lit< tt, refl) (lit< tt, refl) (lit< tt, refl)
+pub bit_and : (a b i : ℕ) → bit (word_and a b) i ≡ bit a i && bit b i
+bit_and = by_digits word_and min (λ x y. x && y) and_shr and_step (lit< tt, refl) (lit< tt, refl) (lit< tt, refl) (lit< tt, refl)
 
-pub bit_or : (a b i : ℕ) → bit (bit_or a b) i ≡ bit a i || bit b i
-bit_or = by_digits bit_or max (λ x y. x || y) or_shr or_step (lit< tt, refl) (lit< tt, refl) (lit< tt, refl) (lit< tt, refl)
+pub bit_or : (a b i : ℕ) → bit (word_or a b) i ≡ bit a i || bit b i
+bit_or = by_digits word_or max (λ x y. x || y) or_shr or_step (lit< tt, refl) (lit< tt, refl) (lit< tt, refl) (lit< tt, refl)
 
-bit_xor : (a b i : ℕ) → bit (bit_xor a b) i ≡ cond (bit a i) (not (bit b i)) (bit b i)
-bit_xor = by_digits bit_xor differ (λ x y. cond x (not y) y) xor_shr xor_step (lit< tt, refl) (lit< tt, refl) (lit< tt, refl) (lit< tt, refl)
+bit_xor : (a b i : ℕ) → bit (word_xor a b) i ≡ cond (bit a i) (not (bit b i)) (bit b i)
+bit_xor = by_digits word_xor differ (λ x y. cond x (not y) y) xor_shr xor_step (lit< tt, refl) (lit< tt, refl) (lit< tt, refl) (lit< tt, refl)
 
 -- set, then turned over: not set
-pub bit_but : (a b i : ℕ) → bit (bit_xor (bit_or a b) b) i ≡ bit a i && not (bit b i)
-bit_but a b i = bit_xor (bit_or a b) b i ∙ ap (λ x. cond x (not (bit b i)) (bit b i)) (bit_or a b i) ∙ cases (bit a i) (bit b i)
+pub bit_but : (a b i : ℕ) → bit (word_xor (word_or a b) b) i ≡ bit a i && not (bit b i)
+bit_but a b i = bit_xor (word_or a b) b i ∙ ap (λ x. cond x (not (bit b i)) (bit b i)) (bit_or a b i) ∙ cases (bit a i) (bit b i)
   where
     cases : (x y : Bool) → cond (x || y) (not y) y ≡ x && not y
     cases true y = refl
@@ -97,7 +97,7 @@ bit_all (suc k) (suc i) =
     bit_later (2 ^ suc k - 1) i ∙ ap (λ n. bit n i) z ∙ bit_all k i ∙ ltb_alike i k (suc i) (suc k) (λ l. omega arith) (λ l. omega arith)
 
 -- what a shift and a mask read
-pub bit_read : (w i : ℕ) → eqb (bit_and (w / 2 ^ i) 1) 1 ≡ bit w i
+pub bit_read : (w i : ℕ) → eqb (word_and (w / 2 ^ i) 1) 1 ≡ bit w i
 unfolding bit
 bit_read w i = ap (λ n. eqb n 1) (and_mask (w / 2 ^ i) 1)
 

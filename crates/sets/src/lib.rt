@@ -1,4 +1,6 @@
 // Sets of numbers below 128, as two words by value.
+#![tactic(auto)]
+
 ghost use Rattle.std.specs.Prelude.{◌≡◌, false, not, ◌&&◌, ◌||◌, ℕ, ◌≤◌, ◌<◌, eqb, ltb};
 ghost use Rattle.answer.specs.Below.{count_below};
 ghost use Rattle.sets.specs.Sets.{most, bit, has, Has, same, Next};

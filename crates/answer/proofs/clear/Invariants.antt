@@ -1,7 +1,6 @@
 -- `answer::clear` meets its contract: the places before `place` are 0, and the rest is as it was.
 use Prim.Native.Nat.{◌-◌}
-use Rattle.answer.proofs.Cleared.{Cleared, cleared_none, cleared_more, cleared_all}
-use Rattle.std.proofs.Common.{arith, rules}
+use Rattle.answer.proofs.Cleared.{Cleared}
 use Rattle.answer.proofs.clear.Given as goal
 
 -- `answer::clear` meets its contract: the places before `place` are 0, and the rest is as it was.

@@ -1,7 +1,5 @@
 -- `answer::clear_bytes` meets its contract: the places before `byte` are 0, and the rest is as it was.
-use Prim.Native.Nat.{◌-◌}
-use Rattle.answer.proofs.Cleared.{Cleared, cleared_none, cleared_more, cleared_all}
-use Rattle.std.proofs.Common.{arith, rules}
+use Rattle.answer.proofs.Cleared.{cleared_none, cleared_more, cleared_all}
 use Rattle.answer.proofs.clear_bytes.Goals as goal
 
 pub loop-byte-init : goal.loop-byte-init

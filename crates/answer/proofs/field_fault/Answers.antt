@@ -1,12 +1,10 @@
 -- `answer::field_fault` meets its contract: no field passed so far is over its maximum.
 use mathlib.Core.Path.{refl, sym}
-use mathlib.Core.List.{List, ◌++◌}
-use Prim.Native.Nat.{ℕ, ◌-◌, ◌≤◌}
-use Rattle.answer.proofs.FirstField.{Searched, value_after, search_starts, field_found, field_passed, no_field}
-use Rattle.answer.specs.Fields.{fields}
+use mathlib.Core.List.{◌++◌}
+use Rattle.answer.proofs.FirstField.{value_after, search_starts, field_found, field_passed, no_field}
 use Rattle.answer.specs.Answers.{zeros}
 use Rattle.answer.specs.Requests.{value}
-use Rattle.std.proofs.Common.{arith, rules}
+use Rattle.std.proofs.Common.{arith}
 use Rattle.answer.proofs.field_fault.Goals as goal
 
 pub loop-field-init : goal.loop-field-init

@@ -1,12 +1,10 @@
 -- `answer::field_fault` meets its contract: no field passed so far is over its maximum.
-use mathlib.Core.Path.{refl, sym}
-use mathlib.Core.List.{List, ◌++◌}
-use Prim.Native.Nat.{ℕ, ◌-◌, ◌≤◌}
-use Rattle.answer.proofs.FirstField.{Searched, value_after, search_starts, field_found, field_passed, no_field}
+use mathlib.Core.List.{◌++◌}
+use Prim.Native.Nat.{◌-◌, ◌≤◌}
+use Rattle.answer.proofs.FirstField.{Searched}
 use Rattle.answer.specs.Fields.{fields}
 use Rattle.answer.specs.Answers.{zeros}
 use Rattle.answer.specs.Requests.{value}
-use Rattle.std.proofs.Common.{arith, rules}
 use Rattle.answer.proofs.field_fault.Given as goal
 
 -- `answer::field_fault` meets its contract: no field passed so far is over its maximum.

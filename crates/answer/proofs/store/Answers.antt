@@ -1,7 +1,6 @@
 -- `answer::store` meets its contract: the numbers so far are stored.
-use Prim.Native.Nat.{◌-◌}
-use Rattle.answer.proofs.Stored.{StoredUpTo, stored_none, stored_more, stored_all}
-use Rattle.std.proofs.Common.{arith, rules}
+use Rattle.answer.proofs.Stored.{stored_none, stored_more, stored_all}
+use Rattle.std.proofs.Common.{arith}
 use Rattle.answer.proofs.store.Goals as goal
 
 pub loop-i-init : goal.loop-i-init

@@ -1,7 +1,6 @@
 -- `answer::store` meets its contract: the numbers so far are stored.
 use Prim.Native.Nat.{◌-◌}
-use Rattle.answer.proofs.Stored.{StoredUpTo, stored_none, stored_more, stored_all}
-use Rattle.std.proofs.Common.{arith, rules}
+use Rattle.answer.proofs.Stored.{StoredUpTo}
 use Rattle.answer.proofs.store.Given as goal
 
 -- `answer::store` meets its contract: the numbers so far are stored.

@@ -1,8 +1,6 @@
 -- `answer::store_bytes` meets its contract: the bytes so far are stored.
-use mathlib.Core.Path.{refl}
 use Prim.Native.Nat.{◌-◌}
-use Rattle.answer.proofs.Stored.{StoredUpTo, stored_none, stored_more, stored_all}
-use Rattle.std.proofs.Common.{arith, rules}
+use Rattle.answer.proofs.Stored.{StoredUpTo}
 use Rattle.answer.proofs.store_bytes.Given as goal
 
 -- `answer::store_bytes` meets its contract: the bytes so far are stored.

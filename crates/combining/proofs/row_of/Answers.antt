@@ -2,7 +2,6 @@
 use mathlib.Core.Path.{ap}
 use Prim.Native.Nat.{◌+◌}
 use Rattle.combining.proofs.Table.{running_below, row_below}
-use Rattle.std.proofs.Common.{arith, rules}
 use Rattle.combining.proofs.row_of.Goals as goal
 
 pub returns : goal.returns

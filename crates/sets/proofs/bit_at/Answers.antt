@@ -1,6 +1,5 @@
 -- `sets::bit_at` meets its contract: a shift and a mask read a place.
 use Rattle.sets.proofs.WordPlaces.{bit_read}
-use Rattle.std.proofs.Common.{arith, rules}
 use Rattle.sets.proofs.bit_at.Goals as goal
 
 pub returns : goal.returns

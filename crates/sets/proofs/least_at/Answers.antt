@@ -2,7 +2,7 @@
 use Prim.Native.Nat.{◌^◌, ◌<◌}
 use lib.Count.{trailing_le}
 use Rattle.sets.proofs.NextNumber.{least_next, least_within}
-use Rattle.std.proofs.Common.{arith, rules}
+use Rattle.std.proofs.Common.{arith}
 use Rattle.sets.proofs.least_at.Goals as goal
 use Rattle.sets.proofs.least_at.Goals.{Start}
 

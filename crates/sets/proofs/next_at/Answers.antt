@@ -1,7 +1,7 @@
 -- `sets::next_at` meets its contract: the least place of what stands from i up.
 use Prim.Native.Nat.{ℕ, ◌^◌, ◌<◌}
 use Rattle.sets.proofs.NextNumber.{next_none, next_some, next_within}
-use Rattle.std.proofs.Common.{arith, rules}
+use Rattle.std.proofs.Common.{arith}
 use Rattle.sets.proofs.next_at.Goals as goal
 use Rattle.sets.proofs.next_at.Goals.{After-least_at}
 

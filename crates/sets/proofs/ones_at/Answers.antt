@@ -2,7 +2,7 @@
 use Prim.Native.Nat.{◌^◌, ◌<◌}
 use lib.Count.{ones-le}
 use Rattle.sets.proofs.PlacesCounted.{ones_counted}
-use Rattle.std.proofs.Common.{arith, rules}
+use Rattle.std.proofs.Common.{arith}
 use Rattle.sets.proofs.ones_at.Goals as goal
 use Rattle.sets.proofs.ones_at.Goals.{Start}
 

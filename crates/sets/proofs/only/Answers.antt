@@ -1,6 +1,5 @@
 -- `sets::only` meets its contract: a shifted 1 has one place set.
 use Rattle.sets.proofs.WordPlaces.{bit_only}
-use Rattle.std.proofs.Common.{arith, rules}
 use Rattle.sets.proofs.only.Goals as goal
 
 pub returns : goal.returns

@@ -1,7 +1,6 @@
 -- `answer::Answer::counted` meets its contract: it is the blank answer with a count.
 use mathlib.Core.Path.{ap}
 use Rattle.answer.specs.declared.Answer.{Answer}
-use Rattle.std.proofs.Common.{arith, rules}
 use Rattle.answer.proofs.Answer.counted.Goals as goal
 
 -- `answer::Answer::counted` meets its contract: it is the blank answer with a count.

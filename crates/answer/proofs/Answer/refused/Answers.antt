@@ -1,7 +1,6 @@
 -- `answer::Answer::refused` meets its contract: it is the blank answer with a number and a place.
 use mathlib.Core.Path.{ap}
 use Rattle.answer.specs.declared.Answer.{Answer}
-use Rattle.std.proofs.Common.{arith, rules}
 use Rattle.answer.proofs.Answer.refused.Goals as goal
 
 -- `answer::Answer::refused` meets its contract: it is the blank answer with a number and a place.

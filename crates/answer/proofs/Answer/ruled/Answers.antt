@@ -1,7 +1,6 @@
 -- `answer::Answer::ruled` meets its contract: it is a count's answer with a decision and a number of subjects.
 use mathlib.Core.Path.{ap}
 use Rattle.answer.specs.declared.Answer.{Answer}
-use Rattle.std.proofs.Common.{arith, rules}
 use Rattle.answer.proofs.Answer.ruled.Goals as goal
 
 -- `answer::Answer::ruled` meets its contract: it is a count's answer with a decision and a number of subjects.

@@ -4,7 +4,6 @@ use mathlib.Core.List.{[]}
 use lib.Dec.{lit<}
 use Rattle.combining.proofs.Fold.{absent_first, way_none}
 use Rattle.combining.proofs.NeverIndeterminate.{none_clear}
-use Rattle.std.proofs.Common.{arith, rules}
 use Rattle.combining.proofs.Running.start.Goals as goal
 
 pub returns : goal.returns

@@ -1,17 +1,14 @@
 -- `combining::Running::take` meets its contract: the table's entry is the step, which the group's way gives of it alone.
 use mathlib.Core.Path.{◌≡◌, refl, sym, ap, ap₂, ◌∙◌}
-use mathlib.Core.Bool.{or_comm}
-use mathlib.Core.List.{[], ◌∷◌}
+use mathlib.Core.List.{List, [], ◌∷◌}
+use Prim.Native.Nat.{ℕ}
 use lib.ListN.{get_or}
 use Rattle.combining.specs.Ways.{Child, as_child, way, step}
 use Rattle.combining.specs.Running.{so_far, Takes, Taken}
+use Rattle.combining.specs.Table.{row_of, Combines}
 use Rattle.combining.specs.declared.Running.{Running}
 use Rattle.combining.proofs.Fold.{pair, step_below}
 use Rattle.combining.proofs.NeverIndeterminate.{way_clear}
-use Rattle.combining.proofs.Running.take.Reads as reads
-use Rattle.combining.proofs.Running.take.Lts as lts
-use Rattle.combining.proofs.row_of.Reads as row-of-reads
-use Rattle.std.proofs.Common.{arith, rules}
 use Rattle.combining.proofs.Running.take.Goals as goal
 
 -- a group of the same kind whose running decision is a step further has taken the child in
@@ -30,22 +27,14 @@ stepped r c t next ek e =
       };
     }
 
--- once the row is known: what is given, and the table's entry
-module _ (c : lts.After-row-of (row-of-reads.Asked, row-of-reads.Learnt) reads.Pre reads.Post) where
-  abbrev self : Running
-  self = c.args.self
-
-  abbrev child : Child
-  child = as_child c.args.decision c.args.counts
-
-  takes : Takes self child
-  takes = c.requires.1
-
-  entry-is-step : get_or (get_or c.args.ways.now c.row_of-row.result []) c.args.decision 0 ≡ (step self.kind (so_far self) child).decision
-  entry-is-step =
-      ap (λ row. get_or (get_or c.args.ways.now row []) c.args.decision 0) c.row_of-row.ensures.0
-      ∙ c.requires.0.each self child takes
+-- the table's entry at the row of a running decision and a child that it can take in
+entry_is_step : (ways : List (List ℕ)) (r : Running) (c : Child) (row : ℕ) → row ≡ row_of r.kind r.decision r.counted c.counts → Combines ways → Takes r c →
+    get_or (get_or ways row []) c.decision 0 ≡ (step r.kind (so_far r) c).decision
+entry_is_step ways r c row e h t = ap (λ row. get_or (get_or ways row []) c.decision 0) e ∙ h.each r c t
 
 pub returns : goal.returns
-returns c = let k = c in
-    stepped (self k) (child k) (takes k) _ refl (ap₂ as_child (entry-is-step k) (search or_comm))
+returns c =
+    let self = c.args.self in
+    let child = as_child c.args.decision c.args.counts in
+    stepped self child c.requires.1 _ refl
+    (ap₂ as_child (entry_is_step c.args.ways.now self child c.row_of-row.result c.row_of-row.ensures.0 c.requires.0 c.requires.1) search)

@@ -1,6 +1,5 @@
 -- `combining::Running::ways` meets its contract: one test of the table's entries, which antt computes.
 use Rattle.combining.proofs.Table.{combines}
-use Rattle.std.proofs.Common.{arith, rules}
 use Rattle.combining.proofs.Running.ways.Goals as goal
 
 pub returns : goal.returns

@@ -1,7 +1,6 @@
 -- `diagram::layout::number_at` meets its contract: past the end there is 0.
 use mathlib.Core.Path.{sym}
 use lib.ListN.{get_or-eq_default}
-use Rattle.std.proofs.Common.{arith, rules}
 use Rattle.diagram.proofs.layout.number_at.Goals as goal
 
 pub returns-else-place-diagram : goal.returns-else-place-diagram

@@ -2,7 +2,7 @@
 use mathlib.Core.Path.{sym, ap, ◌∙◌}
 use Prim.Native.Nat.{◌+◌, ◌*◌}
 use Rattle.diagram.specs.Starts.{size_terminal, size_node}
-use Rattle.std.proofs.Common.{arith, rules}
+use Rattle.std.proofs.Common.{arith}
 use Rattle.diagram.proofs.layout.size_at.Goals as goal
 
 pub returns-then-number_at-eq0 : goal.returns-then-number_at-eq0

@@ -2,7 +2,7 @@
 use mathlib.Core.Path.{ap, ◌∙◌}
 use Rattle.encoding.specs.Layout.{word, count}
 use Rattle.encoding.proofs.Places.{count_there}
-use Rattle.std.proofs.Common.{arith, rules}
+use Rattle.std.proofs.Common.{arith}
 use Rattle.encoding.proofs.layout.count_at.Goals as goal
 
 pub word_at-requires : goal.word_at-requires

@@ -1,7 +1,6 @@
 -- `table::layout::count_place` meets its contract: the layout gives it.
 use mathlib.Core.Path.{refl}
 use Rattle.encoding.specs.Layout.{count_place}
-use Rattle.std.proofs.Common.{arith, rules}
 use Rattle.encoding.proofs.layout.count_place.Goals as goal
 
 pub returns : goal.returns

@@ -1,7 +1,6 @@
 -- `table::layout::header_size` meets its contract: the layout gives it.
 use mathlib.Core.Path.{refl}
 use Rattle.encoding.specs.Layout.{count_place, header}
-use Rattle.std.proofs.Common.{arith, rules}
 use Rattle.encoding.proofs.layout.header_size.Goals as goal
 
 pub returns : goal.returns

@@ -1,10 +1,8 @@
 -- `table::layout::maxima_at` meets its contract: the maxima before the field are written.
-use mathlib.Core.Path.{◌≡◌, refl, ◌∙◌}
-use Prim.Native.Nat.{◌-◌, ◌≤◌}
-use lib.ListN.{length, length-set}
-use Rattle.answer.specs.Fields.{fields}
-use Rattle.encoding.proofs.Maxima.{MaximaWritten, written_more, written_all}
-use Rattle.std.proofs.Common.{arith, rules}
+use mathlib.Core.Path.{refl, ◌∙◌}
+use lib.ListN.{length-set}
+use Rattle.encoding.proofs.Maxima.{written_more, written_all}
+use Rattle.std.proofs.Common.{arith}
 use Rattle.encoding.proofs.layout.maxima_at.Goals as goal
 
 pub loop-field-init : goal.loop-field-init

@@ -1,10 +1,9 @@
 -- `table::layout::maxima_at` meets its contract: the maxima before the field are written.
-use mathlib.Core.Path.{◌≡◌, refl, ◌∙◌}
+use mathlib.Core.Path.{◌≡◌}
 use Prim.Native.Nat.{◌-◌, ◌≤◌}
-use lib.ListN.{length, length-set}
+use lib.ListN.{length}
 use Rattle.answer.specs.Fields.{fields}
-use Rattle.encoding.proofs.Maxima.{MaximaWritten, written_more, written_all}
-use Rattle.std.proofs.Common.{arith, rules}
+use Rattle.encoding.proofs.Maxima.{MaximaWritten}
 use Rattle.encoding.proofs.layout.maxima_at.Given as goal
 
 abbrev pub invariant-loop-field : goal.invariant-loop-field

@@ -2,7 +2,7 @@
 use mathlib.Core.Path.{refl}
 use Rattle.encoding.specs.Layout.{count_place, maximum}
 use Rattle.encoding.proofs.Places.{count_there}
-use Rattle.std.proofs.Common.{arith, rules}
+use Rattle.std.proofs.Common.{arith}
 use Rattle.encoding.proofs.layout.maximum_at.Goals as goal
 
 pub bounds-table-field : goal.bounds-table-field

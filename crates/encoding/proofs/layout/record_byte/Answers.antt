@@ -3,7 +3,7 @@ use mathlib.Core.Path.{ap}
 use Prim.Native.Nat.{◌+◌}
 use Rattle.encoding.specs.Layout.{byte, record_byte}
 use Rattle.encoding.proofs.Places.{record_places}
-use Rattle.std.proofs.Common.{arith, rules}
+use Rattle.std.proofs.Common.{arith}
 use Rattle.encoding.proofs.layout.record_byte.Goals as goal
 
 pub start_of-requires : goal.start_of-requires

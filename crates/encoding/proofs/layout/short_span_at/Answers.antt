@@ -2,7 +2,7 @@
 use mathlib.Core.Path.{◌≡◌, ap}
 use Prim.Native.Nat.{◌+◌}
 use Rattle.encoding.specs.Layout.{byte, word, start, record_byte, record_word}
-use Rattle.std.proofs.Common.{arith, rules}
+use Rattle.std.proofs.Common.{arith}
 use Rattle.encoding.proofs.layout.short_span_at.Goals as goal
 
 pub record_byte-requires : goal.record_byte-requires

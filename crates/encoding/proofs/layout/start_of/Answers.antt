@@ -1,7 +1,7 @@
 -- `table::layout::start_of` meets its contract: the sums are those of the layout.
 use mathlib.Core.Path.{refl}
 use Rattle.encoding.specs.Layout.{count_place, header, record_size, start}
-use Rattle.std.proofs.Common.{arith, rules}
+use Rattle.std.proofs.Common.{arith}
 use Rattle.encoding.proofs.layout.start_of.Goals as goal
 
 pub overflow_mul-result : goal.overflow_mul-result

@@ -2,7 +2,7 @@
 use mathlib.Core.Path.{ap, ◌∙◌}
 use Rattle.encoding.specs.Writing.{with_word}
 use Rattle.encoding.proofs.Places.{count_there}
-use Rattle.std.proofs.Common.{arith, rules}
+use Rattle.std.proofs.Common.{arith}
 use Rattle.encoding.proofs.writing.put_count.Goals as goal
 
 pub put_word-requires : goal.put_word-requires

@@ -3,33 +3,26 @@ use mathlib.Core.Path.{ap, ◌∙◌}
 use mathlib.Core.List.{List}
 use Prim.Native.Nat.{ℕ, ◌+◌, ◌≤◌}
 use lib.ListN.{length}
-use Rattle.encoding.specs.Layout.{start}
+use Rattle.encoding.specs.Layout.{start, NodeHeld}
 use Rattle.encoding.specs.Writing.{with_word}
 use Rattle.encoding.proofs.Places.{record_least, record_there}
-use Rattle.std.proofs.Common.{arith, rules}
+use Rattle.std.proofs.Common.{arith}
 use Rattle.encoding.proofs.writing.put_span.Goals as goal
 
 -- where node i's record lies
-module _ (c : tie.After-start-of-arg) where
-  abbrev table : List ℕ
-  table = c.args.table.now
-
-  abbrev node : ℕ
-  node = c.args.i
-
-  held : start table node + 5 ≤ length table
-  held = omega (arith, record_least table, record_there table node c.requires)
+held : (table : List ℕ) (node : ℕ) → NodeHeld table node → start table node + 5 ≤ length table
+held table node h = omega (arith, record_least table, record_there table node h)
 
 pub start_of-start-requires : goal.start_of-start-requires
-start_of-start-requires c = omega (arith, held c)
+start_of-start-requires c = omega (arith, held c.args.table.now c.args.i c.requires)
 
 pub overflow_add-start : goal.overflow_add-start
-overflow_add-start c = omega (arith, c.start_of-start.ensures, held c)
+overflow_add-start c = omega (arith, c.start_of-start.ensures, held c.args.table.now c.args.i c.requires)
 
 pub put_word-requires : goal.put_word-requires
-put_word-requires c = omega (arith, c.start_of-start.ensures, held c)
+put_word-requires c = omega (arith, c.start_of-start.ensures, held c.args.table.now c.args.i c.requires)
 
 pub returns : goal.returns
 returns c = let p = c in
     let s = p in
-    p.put_word.ensures ∙ ap (λ k. with_word (table s) (k + 1) s.args.span) s.start_of-start.ensures
+    p.put_word.ensures ∙ ap (λ k. with_word s.args.table.now (k + 1) s.args.span) s.start_of-start.ensures

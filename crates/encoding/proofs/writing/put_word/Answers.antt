@@ -1,7 +1,6 @@
 -- `table::writing::put_word` meets its contract: the two bytes are written.
 use mathlib.Core.Path.{refl}
 use Rattle.encoding.specs.Writing.{with_word}
-use Rattle.std.proofs.Common.{arith, rules}
 use Rattle.encoding.proofs.writing.put_word.Goals as goal
 
 pub returns : goal.returns

@@ -1,6 +1,5 @@
 -- `sets::Set::empty` meets its contract: no place of 0 is set.
 use Rattle.sets.proofs.SetNumbers.{empty_has}
-use Rattle.std.proofs.Common.{arith, rules}
 use Rattle.sets.proofs.Set.empty.Goals as goal
 
 pub returns : goal.returns

@@ -1,7 +1,6 @@
 -- `sets::Set::has` meets its contract: the word of i is read at its place.
 use mathlib.Core.Path.{sym, ◌∙◌}
 use Rattle.sets.proofs.SetNumbers.{has_low, has_high}
-use Rattle.std.proofs.Common.{arith, rules}
 use Rattle.sets.proofs.Set.has.Goals as goal
 
 pub returns-then-i-lt-WORD : goal.returns-then-i-lt-WORD

@@ -1,6 +1,6 @@
 -- `sets::Set::next` meets its contract: the word of i first, then the word above it.
 use Rattle.sets.proofs.NextNumber.{next_low, next_over, next_high, next_end}
-use Rattle.std.proofs.Common.{arith, rules}
+use Rattle.std.proofs.Common.{arith}
 use Rattle.sets.proofs.Set.next.Goals as goal
 
 pub overflow_add-result : goal.overflow_add-result

@@ -4,7 +4,6 @@ use mathlib.Core.Path.{sym, ap}
 use borrow.Author.Tests.{eq-eqb, ne_eqb}
 use lib.Dec.{eqb}
 use Rattle.sets.specs.Sets.{same}
-use Rattle.std.proofs.Common.{arith, rules}
 use Rattle.sets.proofs.Set.same.Goals as goal
 
 pub returns-then-self-other : goal.returns-then-self-other
