@@ -22,10 +22,6 @@ module _ (d : List ℕ) (used root : ℕ) where
   begun-long : diagram-layout.header fields ≤ length d → 2 ≤ length begun
   begun-long h = omega (arith, begun-length)
 
--- UNKNOWN GOAL slice-bounds-store-start
-part-store-start : tie.Need-slice-bounds-store-start
-part-store-start c = simp length-set (omega arith)
-
 pub bounds-diagram-1 : goal.bounds-diagram-1
 bounds-diagram-1 c = simp length-set (omega arith)
 

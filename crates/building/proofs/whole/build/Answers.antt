@@ -14,47 +14,51 @@ use Rattle.building.proofs.BuildAnswers.{unread}
 use Rattle.std.proofs.Common.{arith, rules}
 use Rattle.building.proofs.whole.build.Goals as goal
 
--- once the table is read
-abbrev cleared : After-struct_known-1 → After-clear
-cleared c = c
-
--- once all fields are walked
-abbrev read : After-walk_all-root → Else-reading-ne0
-read c = c
-
 pub returns-then-reading-ne0 : goal.returns-then-reading-ne0
-returns-then-reading-ne0 c = let s = cleared c in
-    let f = read_refused c.args.table.now c.read-reading.result c.read-reading.ensures c.if-reading-ne0.true in
-    unread c.args.table.now (length c.args.diagram.now) c.read-reading.result s.clear.last.0 f.1.0 f.1.1 s.clear.ensures
+returns-then-reading-ne0 c =
+    let t = c.args.table.now in
+    let f = read_refused t c.read-reading.result c.read-reading.ensures c.if-reading-ne0.true in
+    let r = unread t (length c.args.diagram.now) c.read-reading.result c.clear.new.list f.1.0 f.1.1 c.clear.ensures in
+    record { value = r.0; diagram_after = r.1 }
 
 pub returns-then-diagram-lt-HEADER : goal.returns-then-diagram-lt-HEADER
-returns-then-diagram-lt-HEADER c = let s = (cleared c) in
-    too_short c.args.table.now (length c.args.diagram.now) ((read_accepted (c.args.table.now (cleared c)) c.read-reading.result c.read-reading.ensures c.if-reading-ne0.false)) c.refused.result s.clear.last.0
-    (omega (arith, s.clear.kept.0, c.if-diagram-lt-HEADER.true)) c.refused.ensures s.clear.ensures
+returns-then-diagram-lt-HEADER c =
+    let t = c.args.table.now in
+    let r = too_short t (length c.args.diagram.now) (read_accepted t c.read-reading.result c.read-reading.ensures c.if-reading-ne0.false)
+    c.refused.result c.clear.new.list (omega (arith, c.clear.auto.list, c.if-diagram-lt-HEADER.true)) c.refused.ensures c.clear.ensures in
+    record { value = r.0; diagram_after = r.1 }
 
 pub walk_all-root-requires : goal.walk_all-root-requires
-walk_all-root-requires c = let s = (cleared c) in record {
-      well_formed = well_formed c.args.table.now ((read_accepted (c.args.table.now (cleared c)) c.read-reading.result c.read-reading.ensures c.if-reading-ne0.false));
+walk_all-root-requires c =
+    let t = c.args.table.now in
+    record {
+      well_formed = well_formed t (read_accepted t c.read-reading.result c.read-reading.ensures c.if-reading-ne0.false);
       room = (omega arith, omega arith, omega arith);
-      diagram_value = s.clear.ensures ∙ ap zeros (sym s.clear.kept.0);
+      diagram_value = c.clear.ensures ∙ ap zeros (sym c.clear.auto.list);
     }
 
 pub returns-then-root : goal.returns-then-root
-returns-then-root c = let r = read c in
-    let s = (cleared c) in
-    walk_full c.args.table.now (length c.args.diagram.now) ((read_accepted (c.args.table.now (cleared c)) c.read-reading.result c.read-reading.ensures c.if-reading-ne0.false)) s.clear.last.0 c.walk_all-root.new.diagram c.walk_all-root.result.full c.walk_all-root.result.end c.walk_all-root.result.place
-    s.clear.ensures c.walk_all-root.ensures c.refused-then-root.result c.clear-then-root.new.list c.if-root.true c.refused-then-root.ensures
-    (c.clear-then-root.ensures ∙ ap zeros (c.walk_all-root.auto.diagram ∙ s.clear.kept.0))
+returns-then-root c =
+    let t = c.args.table.now in
+    let r = walk_full t (length c.args.diagram.now) (read_accepted t c.read-reading.result c.read-reading.ensures c.if-reading-ne0.false)
+    c.clear.new.list c.walk_all-root.new.diagram c.walk_all-root.result.full c.walk_all-root.result.end c.walk_all-root.result.place
+    c.clear.ensures c.walk_all-root.ensures c.refused-then-root.result c.clear-then-root.new.list c.if-root.true c.refused-then-root.ensures
+    (c.clear-then-root.ensures ∙ ap zeros (c.walk_all-root.auto.diagram ∙ c.clear.auto.list)) in
+    record { value = r.0; diagram_after = r.1 }
 
 pub write_header-requires : goal.write_header-requires
-write_header-requires c =  record {
-      header_held = headed (read c);
+write_header-requires c =
+    let t = c.args.table.now in
+    record {
+      header_held = header_there t (well_formed t (read_accepted t c.read-reading.result c.read-reading.ensures c.if-reading-ne0.false));
       fields_in_bounds = omega (arith, c.walk_all-root.auto.diagram, c.if-diagram-lt-HEADER.false);
     }
 
 pub returns : goal.returns
-returns c = let r = read c in
-    let s = (cleared c) in
-    walk_done c.args.table.now (length c.args.diagram.now) ((read_accepted (c.args.table.now (cleared c)) c.read-reading.result c.read-reading.ensures c.if-reading-ne0.false)) s.clear.last.0 c.walk_all-root.new.diagram c.walk_all-root.result.full c.walk_all-root.result.end c.walk_all-root.result.place
-    s.clear.ensures c.walk_all-root.ensures c.counted.result c.write_header.new.diagram c.if-root.false c.walk_all-root.auto.diagram c.counted.ensures
-    c.write_header.ensures
+returns c =
+    let t = c.args.table.now in
+    let r = walk_done t (length c.args.diagram.now) (read_accepted t c.read-reading.result c.read-reading.ensures c.if-reading-ne0.false)
+    c.clear.new.list c.walk_all-root.new.diagram c.walk_all-root.result.full c.walk_all-root.result.end c.walk_all-root.result.place
+    c.clear.ensures c.walk_all-root.ensures c.counted.result c.write_header.new.diagram c.if-root.false c.walk_all-root.auto.diagram c.counted.ensures
+    c.write_header.ensures in
+    record { value = r.0; diagram_after = r.1 }
