@@ -38,18 +38,18 @@ loop-i-init c = (
 
 pub with_node-found-requires : goal.with_node-found-requires
 with_node-found-requires c = record {
-  well_formed = (c.requires, some c.args.table.now c.loop-i.i c.loop-i.invariant.0 c.loop-i-test.true);
-  found_from = after c.loop-i.invariant.1 c.loop-i-test.true;
+  well_formed = (c.requires, some c.args.table.now c.loop-i.i c.loop-i.invariant.0 (omega (arith, c.loop-i-test.true)));
+  found_from = after c.loop-i.invariant.1 (omega (arith, c.loop-i-test.true));
 }
 
 pub bounds-rules-i : goal.bounds-rules-i
-bounds-rules-i c = omega (arith, some c.args.table.now c.loop-i.i c.loop-i.invariant.0 c.loop-i-test.true, c.requires.few)
+bounds-rules-i c = omega (arith, some c.args.table.now c.loop-i.i c.loop-i.invariant.0 (omega (arith, c.loop-i-test.true)), c.requires.few)
 
 pub bounds-groups-i : goal.bounds-groups-i
-bounds-groups-i c = omega (arith, some c.args.table.now c.loop-i.i c.loop-i.invariant.0 c.loop-i-test.true, c.requires.few)
+bounds-groups-i c = omega (arith, some c.args.table.now c.loop-i.i c.loop-i.invariant.0 (omega (arith, c.loop-i-test.true)), c.requires.few)
 
 pub loop-i-preserved : goal.loop-i-preserved
-loop-i-preserved c = (omega (arith, some c.args.table.now c.loop-i.i c.loop-i.invariant.0 c.loop-i-test.true), c.with_node-found.ensures)
+loop-i-preserved c = (omega (arith, some c.args.table.now c.loop-i.i c.loop-i.invariant.0 (omega (arith, c.loop-i-test.true))), c.with_node-found.ensures)
 
 pub rule_at-requires : goal.rule_at-requires
 rule_at-requires c = node_held c.args.table.now c.requires.records 0 c.requires.some
@@ -57,20 +57,20 @@ rule_at-requires c = node_held c.args.table.now c.requires.records 0 c.requires.
 pub returns-then-found-n : goal.returns-then-found-n
 returns-then-found-n c =
     c.refused.ensures
-    ∙ found_mixed c.args.table.now (whole c.loop-i.invariant.1 c.loop-i-test.false) (omega (arith, c.count_at-n.ensures.0, c.if-found-n.true))
+    ∙ found_mixed c.args.table.now (whole c.loop-i.invariant.1 (omega (arith, c.loop-i-test.false))) (omega (arith, c.count_at-n.ensures.0, c.if-found-n.true))
 
 pub returns-then-found-n-2 : goal.returns-then-found-n-2
 returns-then-found-n-2 c =
     let n = c.count_at-n.ensures.0 in
     c.refused-then-found-n-2.ensures
-    ∙ found_in_only_one c.args.table.now (whole c.loop-i.invariant.1 c.loop-i-test.false) (omega (arith, n, c.if-found-n.false))
+    ∙ found_in_only_one c.args.table.now (whole c.loop-i.invariant.1 (omega (arith, c.loop-i-test.false))) (omega (arith, n, c.if-found-n.false))
     (omega (arith, n, c.if-found-n-2.true))
 
 pub returns-then-rule_at : goal.returns-then-rule_at
 returns-then-rule_at c =
     let n = c.count_at-n.ensures.0 in
     c.refused-then-rule_at.ensures
-    ∙ found_rule_root c.args.table.now (whole c.loop-i.invariant.1 c.loop-i-test.false) (omega (arith, n, c.if-found-n.false))
+    ∙ found_rule_root c.args.table.now (whole c.loop-i.invariant.1 (omega (arith, c.loop-i-test.false))) (omega (arith, n, c.if-found-n.false))
     (omega (arith, n, c.if-found-n-2.false)) (sym c.rule_at.ensures ∙ c.if-rule_at.true)
 
 pub returns-else-rule_at : goal.returns-else-rule_at
@@ -78,5 +78,5 @@ returns-else-rule_at c =
     let n = c.count_at-n.ensures.0 in
     c.counted.ensures
     ∙ ap counted n
-    ∙ found_nothing c.args.table.now (whole c.loop-i.invariant.1 c.loop-i-test.false) (omega (arith, n, c.if-found-n.false))
+    ∙ found_nothing c.args.table.now (whole c.loop-i.invariant.1 (omega (arith, c.loop-i-test.false))) (omega (arith, n, c.if-found-n.false))
     (omega (arith, n, c.if-found-n-2.false)) (sym c.rule_at.ensures ∙ c.if-rule_at.false)
