@@ -4,7 +4,7 @@ use mathlib.Core.Path.{sym, ap}
 use borrow.Author.Tests.{ne_eqb}
 use Rattle.combining.specs.Ways.{permit, deny}
 use Rattle.ruling.specs.Meaning.{effect}
-use Rattle.std.proofs.Common.{arith, rules}
+use Rattle.std.proofs.Common.{arith}
 use Rattle.ruling.proofs.groups.effect_of.Goals as goal
 
 pub returns-in-4 : goal.returns-in-4

@@ -1,7 +1,6 @@
 -- `ruling::groups::put` meets its contract: outside the list nothing changes.
 use mathlib.Core.Path.{sym}
 use lib.Seq.{set_out}
-use Rattle.std.proofs.Common.{arith, rules}
 use Rattle.ruling.proofs.groups.put.Goals as goal
 
 pub returns-else-k-cards : goal.returns-else-k-cards

@@ -1,7 +1,6 @@
 -- `ruling::groups::rule_match` meets its contract.
 use mathlib.Core.Path.{refl, ap, ◌∙◌}
 use lib.ListN.{set}
-use Rattle.std.proofs.Common.{arith, rules}
 use Rattle.ruling.proofs.groups.rule_match.Goals as goal
 
 pub returns : goal.returns

@@ -4,7 +4,6 @@ use mathlib.Core.Bool.{cond}
 use borrow.Author.Tests.{eq-eqb, ne_eqb}
 use Rattle.answer.specs.Answers.{refused, ruled}
 use Rattle.targets.specs.Subjects.{size}
-use Rattle.std.proofs.Common.{arith, rules}
 use Rattle.ruling.proofs.ruling.for_subjects.Goals as goal
 
 pub returns-then-answer-ne0 : goal.returns-then-answer-ne0
