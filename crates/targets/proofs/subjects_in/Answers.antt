@@ -1,7 +1,6 @@
 -- `targets::subjects_in` meets its contract, by whether the range wraps.
 use Rattle.std.proofs.Common.{arith}
 use Rattle.targets.proofs.SubjectsInRange.{set_unwrapped, set_wrapped}
-use Rattle.std.proofs.Common.{arith}
 use Rattle.targets.proofs.subjects_in.Goals as goal
 
 pub returns-then-high-low : goal.returns-then-high-low

@@ -1,16 +1,16 @@
 -- `ruling::groups::rule_node` and `rule_run`, which call each other, meet their contracts.
-use Rattle.std.proofs.Common.{◌≡◌, ℕ, ◌+◌, ◌≤◌, ◌<◌, Bool, true, List, ◌∙◌, arith, rules}
+use Rattle.std.proofs.Common.{◌≡◌, ℕ, ◌+◌, ◌≤◌, ◌<◌, true, List, ◌∙◌, arith}
 use Rattle.encoding.specs.Layout.{count, span, NodeHeld}
 use Rattle.table.specs.Tree.{end_of}
 use Rattle.table.specs.WellFormed.{WellFormed}
 use Rattle.targets.specs.Subjects.{applies_to_some}
-use Rattle.ruling.specs.Walk.{MembersPass, AppliesToEach, Node}
-use Rattle.ruling.proofs.Steps.{held, gathered_length, children, first}
+use Rattle.ruling.specs.Walk.{MembersPass, AppliesToEach}
+use Rattle.ruling.proofs.Steps.{held, children, first}
 use Rattle.ruling.proofs.NodeByKind.{by_rule, by_group}
 use Rattle.ruling.proofs.MembersLeft.{members_down, members_after, left_each, left_applies, left_same, none_left}
 use Rattle.ruling.proofs.RulingGoesByWhichApply.{ruled_same}
 use Rattle.ruling.proofs.Decisions.{takes}
-use Rattle.ruling.proofs.ChildByChild.{Before, before_first, before_end, before_some, before_within, before_next, before_skipped}
+use Rattle.ruling.proofs.ChildByChild.{before_first, before_end, before_some, before_within, before_next, before_skipped}
 use Rattle.ruling.proofs.groups.+rule_node_rule_run.Goals as goal
 use Rattle.ruling.proofs.groups.+rule_node_rule_run.Goals.{rule_run-In-loop-i, rule_run-After-members_left-left}
 
@@ -35,20 +35,20 @@ rule_node-rule_run-requires t c =
 
 pub rule_node-rule_match-requires : goal.rule_node-rule_match-requires
 rule_node-rule_match-requires t c = (
-    held c.args.table.now c.requires.well_formed.0 c.args.i c.requires.node.some,
-    omega (arith, c.requires.node.some, c.requires.node.few, c.requires.well_formed.0.few),
-  )
+  held c.args.table.now c.requires.well_formed.0 c.args.i c.requires.node.some,
+  omega (arith, c.requires.node.some, c.requires.node.few, c.requires.well_formed.0.few),
+)
 
 pub rule_node-returns-in-0-to-3 : goal.rule_node-returns-in-0-to-3
 rule_node-returns-in-0-to-3 t c =
     let r = by_group (applies_to_some c.args.table.now c.args.members c.args.others.now) c.args.table.now c.requires.well_formed.0 c.requires.node c.kind_at-kind.ensures (omega arith)
-        c.rule_run.ensures.decision_value c.rule_run.ensures.gathered in
+    c.rule_run.ensures.decision_value c.rule_run.ensures.gathered in
     record { decision_value = r.0; gathered = r.1 }
 
 pub rule_node-returns-in_default : goal.rule_node-returns-in_default
 rule_node-returns-in_default t c =
     let r = by_rule (applies_to_some c.args.table.now c.args.members c.args.others.now) c.args.table.now c.requires.well_formed.0 c.requires.node c.kind_at-kind.ensures (omega arith)
-        c.rule_match.ensures.decision_value.0 c.rule_match.ensures.decision_value.1 c.rule_match.ensures.cards_after in
+    c.rule_match.ensures.decision_value.0 c.rule_match.ensures.decision_value.1 c.rule_match.ensures.cards_after in
     record { decision_value = r.0; gathered = r.1 }
 
 -- rule_run: at a child
@@ -64,9 +64,9 @@ child_spans c = c.requires.well_formed.0.spans c.loop-i.i (child_some c)
 
 pub rule_run-loop-i-init : goal.rule_run-loop-i-init
 rule_run-loop-i-init t c = record {
-    before = before_first c.requires.well_formed.0 c.requires.child_run.0 c.start-running.ensures;
-    passes = c.requires.members_pass
-  }
+  before = before_first c.requires.well_formed.0 c.requires.child_run.0 c.start-running.ensures;
+  passes = c.requires.members_pass;
+}
 
 pub rule_run-short_span_at-requires : goal.rule_run-short_span_at-requires
 rule_run-short_span_at-requires t c =
@@ -138,10 +138,10 @@ rule_run-rule_node-child-requires t c =
 
 pub rule_run-take-running-requires : goal.rule_run-take-running-requires
 rule_run-take-running-requires t c = (
-      c.requires.well_formed.1,
-      takes (applies_to_some c.args.table.now c.members_left-left.result c.args.others.now) c.args.table.now c.loop-i.i c.loop-i.invariant.before.reachable
-          c.rule_node-child.ensures.decision_value,
-    )
+  c.requires.well_formed.1,
+  takes (applies_to_some c.args.table.now c.members_left-left.result c.args.others.now) c.args.table.now c.loop-i.i c.loop-i.invariant.before.reachable
+      c.rule_node-child.ensures.decision_value,
+)
 
 pub rule_run-loop-i-smaller-then-left-ne0 : goal.rule_run-loop-i-smaller-then-left-ne0
 rule_run-loop-i-smaller-then-left-ne0 t c =
@@ -157,7 +157,7 @@ rule_run-loop-i-preserved-then-left-ne0 t c =
     c.args.table.now c.requires.well_formed.0 (within_table m) (alike m) (omega arith) (omega (arith, spans m, spanned m))
     (omega (arith, spanned m)) (omega (arith, spanned m)) (c.rule_node-child.ensures.decision_value, c.rule_node-child.ensures.gathered) in record {
       before = before_next c.requires.well_formed.0 c.loop-i.invariant.before c.loop-i-test.true (spanned m) h r.0 c.take-running.ensures r.1;
-      passes = passed_on m
+      passes = passed_on m;
     }
 
 pub rule_run-loop-i-preserved : goal.rule_run-loop-i-preserved
@@ -165,7 +165,7 @@ rule_run-loop-i-preserved t c =
     let m = (goal.at.rule_run-loop-i-preserved t c).After-members_left-left in record {
       before = before_skipped c.requires.well_formed.0 c.loop-i.invariant.before c.loop-i-test.true (spanned m)
           (none_left c.args.table.now c.args.others.now c.args.members c.members_left-left.result c.loop-i.i c.members_left-left.ensures (omega arith));
-      passes = passed_on m
+      passes = passed_on m;
     }
 
 pub rule_run-returns : goal.rule_run-returns

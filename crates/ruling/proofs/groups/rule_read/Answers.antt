@@ -18,7 +18,7 @@ use Rattle.ruling.proofs.RulingGoesByWhichApply.{ruled_same}
 use Rattle.ruling.proofs.Steps.{held, root, children, gathered_not, all_gathered}
 use Rattle.ruling.proofs.NodeByKind.{by_rule, by_group}
 use Rattle.ruling.proofs.Decisions.{ruled_not}
-use Rattle.std.proofs.Common.{arith, rules}
+use Rattle.std.proofs.Common.{arith}
 use Rattle.ruling.proofs.groups.rule_read.Goals as goal
 
 -- once the members that are left at the root are known, and how many nodes there are

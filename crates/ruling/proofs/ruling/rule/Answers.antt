@@ -1,14 +1,12 @@
 -- `ruling::ruling::rule` meets its contract: a table that is turned away, or what an accepted one is asked.
 use mathlib.Core.Path.{sym, ap, ◌∙◌}
-use mathlib.Core.List.{List}
-use Prim.Native.Nat.{ℕ}
 use lib.ListN.{length}
 use Rattle.answer.specs.Answers.{zeros}
-use Rattle.table.specs.Reading.{table_refusals, Accepted}
+use Rattle.table.specs.Reading.{table_refusals}
 use Rattle.table.proofs.Accepting.{read_accepted, read_refused}
 use Rattle.table.proofs.AcceptedIsWellFormed.{well_formed}
 use Rattle.ruling.proofs.InTwoParts.{turned_away, asked_then}
-use Rattle.std.proofs.Common.{arith, rules}
+use Rattle.std.proofs.Common.{rules}
 use Rattle.ruling.proofs.ruling.rule.Goals as goal
 
 pub returns-then-reading-ne0 : goal.returns-then-reading-ne0

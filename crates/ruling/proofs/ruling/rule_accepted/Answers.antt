@@ -1,13 +1,10 @@
 -- `ruling::ruling::rule_accepted` meets its contract, on each way out.
-use mathlib.Core.Path.{◌≡◌, refl, sym, ap, ◌∙◌}
-use mathlib.Core.Bool.{Bool}
-use mathlib.Core.List.{List, [], ◌∷◌}
-use Prim.Native.Nat.{ℕ, ◌≤◌}
+use mathlib.Core.Path.{refl, sym, ap, ◌∙◌}
+use mathlib.Core.List.{[], ◌∷◌}
+use Prim.Native.Nat.{◌≤◌}
 use lib.ListN.{length, get_or}
 use Rattle.answer.specs.Answers.{zeros}
-use Rattle.answer.specs.Refusals.{Refusal, here}
-use Rattle.answer.specs.Requests.{field_fault}
-use Rattle.answer.specs.Rulings.{Ruling}
+use Rattle.answer.specs.Refusals.{here}
 use Rattle.answer.proofs.RequestRefusals.{asked_before, asked_over, asked_short, asked_ruled}
 use Rattle.answer.proofs.Stored.{stored_cleared}
 use Rattle.encoding.specs.Layout.{maximum}
@@ -15,7 +12,7 @@ use Rattle.encoding.proofs.Places.{header_held}
 use Rattle.encoding.proofs.Maxima.{maxima_length, maxima_each, maxima_fault}
 use Rattle.targets.specs.Subjects.{subjects_fault}
 use Rattle.ruling.specs.Ruling.{groups_together, subjects_refusal}
-use Rattle.std.proofs.Common.{arith, rules}
+use Rattle.std.proofs.Common.{arith}
 use Rattle.ruling.proofs.ruling.rule_accepted.Goals as goal
 
 pub maxima_at-maxima-requires : goal.maxima_at-maxima-requires
