@@ -33,7 +33,7 @@ returns-then-end-place c =
 pub entry_sound-requires : goal.entry_sound-requires
 entry_sound-requires c = record {
   whole = passed_whole c.args.diagram.now c.requires.opened c.loop-place.marks c.loop-place.place c.loop-place.invariant.1 c.size_at-size.result c.loop-place-test.true
-      c.size_at-size.ensures.0 c.if-end-place.false;
+      c.size_at-size.ensures.0 (omega arith);
   entries_marked = c.loop-place.invariant.1.marked;
 }
 
@@ -65,7 +65,7 @@ loop-place-preserved c =
     let p = c.loop-place.place in (
       length-set c.loop-place.marks p _ ∙ c.loop-place.invariant.0,
       passed_more c.args.diagram.now c.requires.opened c.loop-place.marks p c.loop-place.invariant.1 c.size_at-size.result _ c.loop-place-test.true c.size_at-size.ensures.0
-          c.if-end-place.false (sound (goal.at.loop-place-preserved c).Else-not-entry_sound) refl,
+          (omega arith) (sound (goal.at.loop-place-preserved c).Else-not-entry_sound) refl,
     )
 
 pub bounds-diagram-1 : goal.bounds-diagram-1
@@ -76,8 +76,8 @@ returns-then-end-root c =
     root_past c.args.diagram.now c.requires.opened c.loop-place.marks c.loop-place.place c.loop-place.invariant.1 _ refl c.if-end-root.true
 
 pub bounds-marks-root : goal.bounds-marks-root
-bounds-marks-root c = omega (arith, c.if-end-root.false, c.loop-place.invariant.1.room)
+bounds-marks-root c = omega (arith, c.loop-place.invariant.1.room)
 
 pub returns : goal.returns
 returns c =
-    root_decides c.args.diagram.now c.requires.opened c.loop-place.marks c.loop-place.place c.loop-place.invariant.1 _ c.loop-place-test.false refl c.if-end-root.false _ refl
+    root_decides c.args.diagram.now c.requires.opened c.loop-place.marks c.loop-place.place c.loop-place.invariant.1 _ c.loop-place-test.false refl (omega arith) _ refl

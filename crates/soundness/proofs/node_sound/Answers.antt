@@ -13,7 +13,7 @@ mark-below c =
     let level = level_at c.args.diagram.now c.args.place in
     elim c.if-level-lt-FIELDS.branch [
       | then-level-lt-FIELDS w ↦ w.below-is ∙ next_mark level (λ e. absurd (omega (arith, w.if-level-lt-FIELDS.true)))
-      | else-level-lt-FIELDS w ↦ w.below-is ∙ next_mark_last level (omega (arith, c.if-level-gt-FIELDS.false, w.if-level-lt-FIELDS.false))
+      | else-level-lt-FIELDS w ↦ w.below-is ∙ next_mark_last level (omega arith)
     ]
 
 -- an edge whose last value rises, and its child's mark
@@ -22,9 +22,6 @@ its-mark c = elim c.if-child-place.branch [
   | then-child-place w ↦ inl (w.if-child-place.true, w.mark-is)
   | else-child-place w ↦ inr (w.if-child-place.false, w.mark-is)
 ]
-
-pub returns-then-level-gt-FIELDS : goal.returns-then-level-gt-FIELDS
-returns-then-level-gt-FIELDS c = λ s. absurd (omega (arith, s.to_last, c.if-level-gt-FIELDS.true))
 
 pub loop-edge-init : goal.loop-edge-init
 loop-edge-init c = (omega arith, checked_none c.args.diagram.now c.args.place)
@@ -44,9 +41,9 @@ loop-edge-preserved c =
     let k = (goal.at.loop-edge-preserved c).Joined-child-place in
     let j = (goal.at.loop-edge-preserved c).Joined-level-lt-FIELDS in
     let right = child_right c.args.diagram.now c.args.place c.args.marks.now c.requires.entries_marked c.loop-edge.edge _ _ (its-mark k) (mark-below j) c.if-mark-below.false in
-    (omega arith, checked_more c.args.diagram.now c.args.place c.loop-edge.invariant.1 c.if-last-from.false right)
+    (omega arith, checked_more c.args.diagram.now c.args.place c.loop-edge.invariant.1 (omega arith) right)
 
 pub returns : goal.returns
 returns c =
     edges_decide c.args.diagram.now c.args.place c.loop-edge.invariant.1 (omega (arith, c.loop-edge-test.false, c.loop-edge.invariant.0)) c.requires.bound.0
-    c.if-level-gt-FIELDS.false _ refl
+    (omega arith) _ refl
