@@ -1,4 +1,6 @@
 // Entries of a diagram that is built: written into its rest, or pointed to where an equal one stands.
+#![tactic(auto)]
+
 pub mod edges;
 mod entering;
 mod finding;
