@@ -1,6 +1,7 @@
 // Prints what a table rules, read from standard input: a line for each path of its diagram, or the refusal.
 #![tactic(auto)]
 
+ghost use Rattle.std.specs.Prelude.{◌≡◌, length};
 ghost use Rattle.answer.specs.Fields.{fields};
 ghost use Rattle.diagram.specs.Sound.{Sound};
 ghost use Rattle.std.specs.Io.{ReadsAtMost};
@@ -63,7 +64,7 @@ fn print_refusal(rt: &impl Print, number: u8, place: usize) -> io::Result<()> {
 fn print_listing(rt: &impl Print, diagram: &[u16]) -> io::Result<()>
     requires { Sound fields diagram.now }
 {
-    let mut text = [0u8; PAGE];
+    let mut text = empty_page();
     let mut end = fields_line(diagram, &mut text, 0);
     let mut values = [0u16; FIELDS];
     loop {
@@ -77,4 +78,11 @@ fn print_listing(rt: &impl Print, diagram: &[u16]) -> io::Result<()>
         values = after.values;
         end = 0;
     }
+}
+
+// The `ensures` gives only the length, which lending the page as a slice needs.
+fn empty_page() -> [u8; PAGE]
+    ensures { PAGE ≡ length result }
+{
+    [0; PAGE]
 }
