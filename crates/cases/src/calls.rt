@@ -43,7 +43,7 @@ pub(crate) struct Call {
 }
 
 // A set of subjects, and whether a text says it.
-#[derive(Drop)]
+#[derive(Clone, Copy)]
 struct Said {
     understood: bool,
     subjects: u64,

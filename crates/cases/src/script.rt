@@ -9,7 +9,7 @@ use std::io;
 use std::num::wrapping_add_usize;
 
 // Where the lines with the last table, the last expansion and the last diagram begin, and what was counted.
-#[derive(Drop)]
+#[derive(Clone, Copy)]
 struct State {
     table: usize,
     expansion: usize,
@@ -150,14 +150,14 @@ fn compared(
     }
     let counted = tally.due(call.which, wide(due[0]));
     let place = first_difference(lent, &written, call.places);
-    if is_due(&given, due) & (place == call.places) {
+    if is_due(given, due) & (place == call.places) {
         return Ok(counted);
     }
     counted.differs(rt, part(line, NAME), given, place, call.places)
 }
 
 // Whether an answer has the number, place, decision, count and subjects that are due.
-fn is_due(answer: &Answer, due: [u16; 5]) -> bool {
+fn is_due(answer: Answer, due: [u16; 5]) -> bool {
     (answer.number as usize == wide(due[0]))
         & (answer.place == wide(due[1]))
         & (answer.decision as usize == wide(due[2]))

@@ -15,7 +15,7 @@ const DIFFERENCES: usize = CALLS * NUMBERS;
 const COUNTS: usize = DIFFERENCES + 1;
 
 // How many cases are due each number, for one call after another; and how many differ.
-#[derive(Drop)]
+#[derive(Clone, Copy)]
 pub(crate) struct Tally {
     pub counts: [usize; COUNTS],
 }
