@@ -1,4 +1,6 @@
 // The text of a listing: the fields' maxima, then a line for each path of a diagram, in rising order; or a refusal.
+#![tactic(auto)]
+
 pub mod lines;
 pub mod pages;
 pub mod paths;

@@ -1,4 +1,6 @@
 // Ruling by a diagram from anyone: refusals 12, 9 and 10 in order, or the decision and the cards.
+#![tactic(auto)]
+
 ghost use Rattle.std.specs.Prelude.{◌≡◌, ◌+◌, ◌*◌, ◌-◌, ◌≤◌, ◌<◌, length};
 ghost use Rattle.answer.specs.Fields.{fields};
 ghost use Rattle.answer.specs.Answers.{zeros};

@@ -2,7 +2,7 @@
 -- Assumes nothing.
 use mathlib.Core.Path.{◌≡◌, refl, sym, ap, ◌∙◌, subst}
 use mathlib.Core.Bool.{Bool, true, false, cond}
-use mathlib.Core.Logic.{◌⊎◌, inl, inr, ⊎_elim}
+use mathlib.Core.Logic.{◌⊎◌, ⊎_elim}
 use mathlib.Core.List.{List}
 use Prim.Native.Nat.{ℕ, ◌+◌, ◌-◌, ◌≤◌, ◌<◌}
 use native.Mathlib.Omega.{arith}
@@ -13,7 +13,7 @@ use lib.Dec.{eqb}
 use lib.ListN.{get_or}
 use Rattle.answer.specs.Fields.{fields}
 use Rattle.diagram.specs.Layout.{number_at, maximum, level_at, edges_at, last_at, child_at}
-use Rattle.diagram.specs.Sound.{Start, EntryBefore, next_level, SoundNode}
+use Rattle.diagram.specs.Sound.{EntryBefore, next_level, SoundNode}
 use Rattle.diagram.specs.Decided.{Decides}
 use Rattle.soundness.specs.Pass.{EntriesMarked}
 

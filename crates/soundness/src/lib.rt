@@ -1,4 +1,6 @@
 // Whether a slice is a sound diagram: one pass, linear in the places used.
+#![tactic(auto)]
+
 ghost use Rattle.std.specs.Prelude.{◌≡◌, ℕ, ◌+◌, ◌*◌, ◌≤◌, ◌<◌, length};
 ghost use Rattle.answer.specs.Fields.{fields};
 ghost use Rattle.diagram.specs.Layout.{header, most_places, maximum, level_at, count_at, edges_at};

@@ -1,16 +1,10 @@
 -- `attaching::faults::fit_fault` meets its contract: one refusal after another.
-use mathlib.Core.Path.{◌≡◌, sym, ◌∙◌}
-use mathlib.Core.Bool.{false}
-use mathlib.Core.List.{List}
-use Prim.Native.Nat.{ℕ}
+use mathlib.Core.Path.{sym, ◌∙◌}
 use Rattle.answer.specs.Refusals.{here, later}
 use Rattle.answer.proofs.Settling.{settled_first, settled_none}
-use Rattle.table.specs.Tree.{is_rule}
-use Rattle.table.specs.WellFormed.{WellFormed}
 use Rattle.encoding.proofs.Places.{header_held, node_held}
-use Rattle.attaching.specs.Attached.{headers_differ, fit_refusals}
+use Rattle.attaching.specs.Attached.{fit_refusals}
 use Rattle.attaching.proofs.FitFaults.{versions_same}
-use Rattle.std.proofs.Common.{arith, rules}
 use Rattle.attaching.proofs.faults.fit_fault.Goals as goal
 
 pub rule_at-requires : goal.rule_at-requires
@@ -21,9 +15,9 @@ headers_differ-requires c = (header_held c.args.base.now c.requires.0.records, h
 
 pub too_large-requires : goal.too_large-requires
 too_large-requires c = record {
-      well_formed = c.requires;
-      base_value = versions_same c.args.base.now c.args.expansion.now (sym c.headers_differ.ensures ∙ c.if-headers_differ.false);
-    }
+  well_formed = c.requires;
+  base_value = versions_same c.args.base.now c.args.expansion.now (sym c.headers_differ.ensures ∙ c.if-headers_differ.false);
+}
 
 pub returns-then-rule_at : goal.returns-then-rule_at
 returns-then-rule_at c = sym (settled_first (λ number place. number) 0 (fit_refusals c.args.base.now c.args.expansion.now) (here (sym c.rule_at.ensures ∙ c.if-rule_at.true)))

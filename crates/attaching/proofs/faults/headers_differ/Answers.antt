@@ -1,14 +1,10 @@
 -- `attaching::faults::headers_differ` meets its contract: the versions are the same, and so are the maxima so far.
 use mathlib.Core.Path.{◌≡◌, refl, sym, ◌∙◌}
-use mathlib.Core.Bool.{false}
-use mathlib.Core.List.{List}
-use Prim.Native.Nat.{ℕ, ◌-◌, ◌≤◌}
 use Rattle.answer.specs.Below.{some_below}
 use Rattle.answer.specs.Fields.{fields}
-use Rattle.encoding.specs.Layout.{version, HeaderHeld}
 use Rattle.encoding.proofs.Places.{version_there}
-use Rattle.attaching.proofs.FitFaults.{differs, version_differs, maximum_differs, headers_same, same_more}
-use Rattle.std.proofs.Common.{arith, rules}
+use Rattle.attaching.proofs.FitFaults.{version_differs, maximum_differs, headers_same, same_more}
+use Rattle.std.proofs.Common.{arith}
 use Rattle.attaching.proofs.faults.headers_differ.Goals as goal
 
 pub bounds-base-2 : goal.bounds-base-2
@@ -36,10 +32,10 @@ returns-then-maximum_at c = maximum_differs c.args.base.now c.args.expansion.now
 
 pub loop-field-preserved : goal.loop-field-preserved
 loop-field-preserved c = (
-      omega arith,
-      c.loop-field.invariant.1,
-      same_more c.args.base.now c.args.expansion.now c.loop-field.field c.loop-field.invariant.2 (sym c.maximum_at.ensures ∙ c.if-maximum_at.false ∙ c.maximum_at-in-loop-field.ensures),
-    )
+  omega arith,
+  c.loop-field.invariant.1,
+  same_more c.args.base.now c.args.expansion.now c.loop-field.field c.loop-field.invariant.2 (sym c.maximum_at.ensures ∙ c.if-maximum_at.false ∙ c.maximum_at-in-loop-field.ensures),
+)
 
 pub returns : goal.returns
 returns c = let z : c.loop-field.field ≡ fields = omega (arith, c.loop-field.invariant.0, c.loop-field-test.false) in

@@ -1,12 +1,8 @@
 -- `attaching::faults::too_large_lem` meets its contract: by the nodes of both tables and the levels of the expansion.
-use mathlib.Core.Path.{◌≡◌, ◌∙◌}
-use mathlib.Core.List.{List}
-use Prim.Native.Nat.{ℕ}
-use Rattle.encoding.specs.Layout.{version}
-use Rattle.table.specs.WellFormed.{WellFormed}
+use mathlib.Core.Path.{◌∙◌}
 use Rattle.encoding.proofs.Places.{header_held}
 use Rattle.attaching.proofs.FitFaults.{too_many, by_levels}
-use Rattle.std.proofs.Common.{arith, rules}
+use Rattle.std.proofs.Common.{arith}
 use Rattle.attaching.proofs.faults.too_large.Goals as goal
 
 pub count_at-requires : goal.count_at-requires

@@ -1,7 +1,7 @@
 -- `attaching::writing::attached_size` meets its contract: the header is left out of the expansion.
 use Rattle.encoding.proofs.Places.{header_held}
 use Rattle.attaching.proofs.BytesFitted.{size_is, size_small}
-use Rattle.std.proofs.Common.{arith, rules}
+use Rattle.std.proofs.Common.{arith}
 use Rattle.attaching.proofs.writing.attached_size.Goals as goal
 
 pub overflow_sub-result : goal.overflow_sub-result

@@ -1,0 +1,23 @@
+-- `soundness::terminal_sound` meets its contract: no card passed so far is 0.
+use mathlib.Core.Path.{refl}
+use Rattle.soundness.proofs.NumberByNumber.{none_zero_more, decision_over, cards_over, card_zero, terminal_right}
+use Rattle.std.proofs.Common.{arith}
+use Rattle.soundness.proofs.terminal_sound.Goals as goal
+
+pub returns-then-diagram-place : goal.returns-then-diagram-place
+returns-then-diagram-place c = decision_over c.args.diagram.now c.args.place _ refl c.if-diagram-place.true
+
+pub returns-then-count-gt127 : goal.returns-then-count-gt127
+returns-then-count-gt127 c = cards_over c.args.diagram.now c.args.place _ refl c.if-count-gt127.true
+
+pub loop-i-init : goal.loop-i-init
+loop-i-init c = (refl, c.if-count-gt127.false, omega arith, λ j h. absurd (omega arith))
+
+pub returns-then-diagram-place-eq0 : goal.returns-then-diagram-place-eq0
+returns-then-diagram-place-eq0 c = card_zero c.args.diagram.now c.args.place c.loop-i.i _ refl c.if-diagram-place-eq0.true (omega (arith, c.loop-i.invariant.0))
+
+pub loop-i-preserved : goal.loop-i-preserved
+loop-i-preserved c = (c.loop-i.invariant.0, c.loop-i.invariant.1, omega arith, none_zero_more c.args.diagram.now c.args.place c.loop-i.i _ refl c.if-diagram-place-eq0.false c.loop-i.invariant.3)
+
+pub returns : goal.returns
+returns c = terminal_right c.args.diagram.now c.args.place c.requires.place_value _ c.loop-i.i refl c.if-diagram-place.false (omega (arith, c.loop-i.invariant.0)) (omega (arith, c.loop-i.invariant.0)) c.loop-i.invariant.3
