@@ -1,7 +1,7 @@
 -- What building answers and leaves in the lent diagram: by its refusals, and where it succeeds.
 -- Assumes nothing.
 use mathlib.Core.Path.{◌≡◌, refl, ap, ◌∙◌}
-use mathlib.Core.Bool.{true, false, ◌||◌, or-true}
+use mathlib.Core.Bool.{false, ◌||◌, or-true}
 use mathlib.Core.Logic.{◌⊎◌, ◌↔◌, ⊎_elim}
 use mathlib.Core.List.{List, [], ◌∷◌}
 use Prim.Native.Nat.{ℕ, ◌-◌, ◌≤◌, ◌<◌}

@@ -8,7 +8,7 @@ use Rattle.answer.specs.Fields.{fields}
 use Rattle.encoding.proofs.Maxima.{maxima_length}
 use Rattle.diagram.specs.Layout as diagram-layout
 use Rattle.entering.proofs.NumbersWritten.{rest_length, rest_kept, rest_stored}
-use Rattle.std.proofs.Common.{arith, rules}
+use Rattle.std.proofs.Common.{arith}
 use Rattle.building.proofs.header.write_header.Goals as goal
 
 module _ (d : List ℕ) (used root : ℕ) where

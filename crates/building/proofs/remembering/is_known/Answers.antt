@@ -1,8 +1,6 @@
 -- `building::remembering::is_known` meets its contract: where it says yes, there is a place and the sets were compared.
 use mathlib.Core.Path.{sym, ◌∙◌}
 use mathlib.Core.Bool.{false≢true}
-
-use Rattle.std.proofs.Common.{arith, rules}
 use Rattle.building.proofs.remembering.is_known.Goals as goal
 
 pub returns-then-near-eq0 : goal.returns-then-near-eq0

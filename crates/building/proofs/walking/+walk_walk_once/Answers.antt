@@ -1,6 +1,5 @@
 -- `building::walking::walk` and `walk_once`, which call each other, meet their contracts: before a value, those below it are walked.
-use Rattle.std.proofs.Common.{◌≡◌, ℕ, suc, ◌+◌, ◌-◌, ◌*◌, ◌≤◌, ◌<◌, List, refl, ◌∙◌, length, arith, rules}
-use Rattle.answer.specs.Fields.{fields}
+use Rattle.std.proofs.Common.{◌≡◌, suc, ◌<◌, refl, arith}
 use Rattle.sets.specs.Sets.{has}
 use Rattle.encoding.specs.Layout.{maximum}
 use Rattle.applying.specs.Members.{ruling_from}
@@ -16,7 +15,7 @@ pub walk-enter_ruling-requires : goal.walk-enter_ruling-requires
 walk-enter_ruling-requires t c = record { well_formed = (c.requires.well_formed.0, c.requires.well_formed.2); room = c.requires.room.0 }
 
 pub walk-returns-then-field-eq-FIELDS-clause-walks : goal.walk-returns-then-field-eq-FIELDS-clause-walks
-walk-returns-then-field-eq-FIELDS-clause-walks t c = 
+walk-returns-then-field-eq-FIELDS-clause-walks t c =
     walks_as
     (walks_terminal (ruling_from c.args.table.now c.args.field (has c.args.possible)) (remembers_on c.args.table.now c.args.seen.now)
     c.enter_ruling.ensures.bounded c.enter_ruling.ensures.standing)
@@ -30,21 +29,21 @@ walk-maximum_at-most-requires t c = (header_there c.args.table.now c.requires.we
 
 pub walk-loop-value-init : goal.walk-loop-value-init
 walk-loop-value-init t c = record {
-      inside = omega arith;
-      most_is = c.maximum_at-most.ensures;
-      most_small = omega arith;
-      near_small = omega arith;
-      before =
-          before_first (level_deep c.args.table.now c.args.field (omega arith)) c.requires.room.0 c.requires.edge_rows.0 c.requires.edge_rows.1
-          (λ es h. (h.0, (h.1, λ some. absurd (some refl))));
-    }
+  inside = omega arith;
+  most_is = c.maximum_at-most.ensures;
+  most_small = omega arith;
+  near_small = omega arith;
+  before =
+      before_first (level_deep c.args.table.now c.args.field (omega arith)) c.requires.room.0 c.requires.edge_rows.0 c.requires.edge_rows.1
+      (λ es h. (h.0, (h.1, λ some. absurd (some refl))));
+}
 
 pub walk-walk_once-under-requires : goal.walk-walk_once-under-requires
-walk-walk_once-under-requires t c = 
+walk-walk_once-under-requires t c =
     let run : ValueRun c.args.table.now c.args.possible c.args.field c.loop-value.value c.run_end-until.result c.meet-here.result =
-        value_run c.args.sets.now c.args.field c.set_at.result c.requires.well_formed.1 c.loop-value.invariant.inside
-        (omega (arith, c.loop-value.invariant.most_is, c.loop-value-test.true)) c.set_at.ensures c.meet-here.ensures
-        c.run_end-until.ensures.0 c.run_end-until.ensures.1 in
+    value_run c.args.sets.now c.args.field c.set_at.result c.requires.well_formed.1 c.loop-value.invariant.inside
+    (omega (arith, c.loop-value.invariant.most_is, c.loop-value-test.true)) c.set_at.ensures c.meet-here.ensures
+    c.run_end-until.ensures.0 c.run_end-until.ensures.1 in
     let b = c.loop-value.invariant.before in (
       omega (arith, c.decreases, c.loop-value.invariant.inside),
       (
@@ -54,11 +53,11 @@ walk-walk_once-under-requires t c =
     )
 
 pub walk-returns-then-under : goal.walk-returns-then-under
-walk-returns-then-under t c = 
+walk-returns-then-under t c =
     let run : ValueRun c.args.table.now c.args.possible c.args.field c.loop-value.value c.run_end-until.result c.meet-here.result =
-        value_run c.args.sets.now c.args.field c.set_at.result c.requires.well_formed.1 c.loop-value.invariant.inside
-        (omega (arith, c.loop-value.invariant.most_is, c.loop-value-test.true)) c.set_at.ensures c.meet-here.ensures
-        c.run_end-until.ensures.0 c.run_end-until.ensures.1 in
+    value_run c.args.sets.now c.args.field c.set_at.result c.requires.well_formed.1 c.loop-value.invariant.inside
+    (omega (arith, c.loop-value.invariant.most_is, c.loop-value-test.true)) c.set_at.ensures c.meet-here.ensures
+    c.run_end-until.ensures.0 c.run_end-until.ensures.1 in
     let b = c.loop-value.invariant.before in
     let x = c.walk_once-under in record {
       walks =
@@ -68,46 +67,46 @@ walk-returns-then-under t c =
     }
 
 pub walk-overflow_cast-until : goal.walk-overflow_cast-until
-walk-overflow_cast-until t c = 
+walk-overflow_cast-until t c =
     let run : ValueRun c.args.table.now c.args.possible c.args.field c.loop-value.value c.run_end-until.result c.meet-here.result =
-        value_run c.args.sets.now c.args.field c.set_at.result c.requires.well_formed.1 c.loop-value.invariant.inside
-        (omega (arith, c.loop-value.invariant.most_is, c.loop-value-test.true)) c.set_at.ensures c.meet-here.ensures
-        c.run_end-until.ensures.0 c.run_end-until.ensures.1 in
+    value_run c.args.sets.now c.args.field c.set_at.result c.requires.well_formed.1 c.loop-value.invariant.inside
+    (omega (arith, c.loop-value.invariant.most_is, c.loop-value-test.true)) c.set_at.ensures c.meet-here.ensures
+    c.run_end-until.ensures.0 c.run_end-until.ensures.1 in
     omega (arith, c.loop-value.invariant.most_is, c.loop-value.invariant.most_small, run_within run)
 
 pub walk-extend-edges-requires : goal.walk-extend-edges-requires
-walk-extend-edges-requires t c = 
+walk-extend-edges-requires t c =
     let run : ValueRun c.args.table.now c.args.possible c.args.field c.loop-value.value c.run_end-until.result c.meet-here.result =
-        value_run c.args.sets.now c.args.field c.set_at.result c.requires.well_formed.1 c.loop-value.invariant.inside
-        (omega (arith, c.loop-value.invariant.most_is, c.loop-value-test.true)) c.set_at.ensures c.meet-here.ensures
-        c.run_end-until.ensures.0 c.run_end-until.ensures.1 in
+    value_run c.args.sets.now c.args.field c.set_at.result c.requires.well_formed.1 c.loop-value.invariant.inside
+    (omega (arith, c.loop-value.invariant.most_is, c.loop-value-test.true)) c.set_at.ensures c.meet-here.ensures
+    c.run_end-until.ensures.0 c.run_end-until.ensures.1 in
     let k = c.walk_once-under.ensures.edges_kept in
     let few : c.loop-value.edges < 256 =
-        omega (arith, c.loop-value.invariant.before.few, run.more, c.loop-value.invariant.most_is, c.loop-value.invariant.most_small) in
+    omega (arith, c.loop-value.invariant.before.few, run.more, c.loop-value.invariant.most_is, c.loop-value.invariant.most_small) in
     (omega (arith, k.0.rows.long c.args.field c.loop-value.invariant.inside), omega (arith, k.1.rows.long c.args.field c.loop-value.invariant.inside), few)
 
 pub walk-overflow_add-value : goal.walk-overflow_add-value
-walk-overflow_add-value t c = 
+walk-overflow_add-value t c =
     let run : ValueRun c.args.table.now c.args.possible c.args.field c.loop-value.value c.run_end-until.result c.meet-here.result =
-        value_run c.args.sets.now c.args.field c.set_at.result c.requires.well_formed.1 c.loop-value.invariant.inside
-        (omega (arith, c.loop-value.invariant.most_is, c.loop-value-test.true)) c.set_at.ensures c.meet-here.ensures
-        c.run_end-until.ensures.0 c.run_end-until.ensures.1 in
+    value_run c.args.sets.now c.args.field c.set_at.result c.requires.well_formed.1 c.loop-value.invariant.inside
+    (omega (arith, c.loop-value.invariant.most_is, c.loop-value-test.true)) c.set_at.ensures c.meet-here.ensures
+    c.run_end-until.ensures.0 c.run_end-until.ensures.1 in
     omega (arith, c.loop-value.invariant.most_is, c.loop-value.invariant.most_small, run_within run)
 
 pub walk-loop-value-smaller : goal.walk-loop-value-smaller
-walk-loop-value-smaller t c = 
+walk-loop-value-smaller t c =
     let run : ValueRun c.args.table.now c.args.possible c.args.field c.loop-value.value c.run_end-until.result c.meet-here.result =
-        value_run c.args.sets.now c.args.field c.set_at.result c.requires.well_formed.1 c.loop-value.invariant.inside
-        (omega (arith, c.loop-value.invariant.most_is, c.loop-value-test.true)) c.set_at.ensures c.meet-here.ensures
-        c.run_end-until.ensures.0 c.run_end-until.ensures.1 in
+    value_run c.args.sets.now c.args.field c.set_at.result c.requires.well_formed.1 c.loop-value.invariant.inside
+    (omega (arith, c.loop-value.invariant.most_is, c.loop-value-test.true)) c.set_at.ensures c.meet-here.ensures
+    c.run_end-until.ensures.0 c.run_end-until.ensures.1 in
     omega (arith, c.loop-value.invariant.most_is, c.loop-value.invariant.most_small, run.far, run_within run)
 
 pub walk-loop-value-preserved : goal.walk-loop-value-preserved
-walk-loop-value-preserved t c = 
+walk-loop-value-preserved t c =
     let run : ValueRun c.args.table.now c.args.possible c.args.field c.loop-value.value c.run_end-until.result c.meet-here.result =
-        value_run c.args.sets.now c.args.field c.set_at.result c.requires.well_formed.1 c.loop-value.invariant.inside
-        (omega (arith, c.loop-value.invariant.most_is, c.loop-value-test.true)) c.set_at.ensures c.meet-here.ensures
-        c.run_end-until.ensures.0 c.run_end-until.ensures.1 in
+    value_run c.args.sets.now c.args.field c.set_at.result c.requires.well_formed.1 c.loop-value.invariant.inside
+    (omega (arith, c.loop-value.invariant.most_is, c.loop-value-test.true)) c.set_at.ensures c.meet-here.ensures
+    c.run_end-until.ensures.0 c.run_end-until.ensures.1 in
     let i = c.loop-value.invariant in
     let x = c.walk_once-under in
     let y = c.extend-edges in record {
@@ -122,12 +121,12 @@ walk-loop-value-preserved t c =
     }
 
 pub walk-enter_node-requires : goal.walk-enter_node-requires
-walk-enter_node-requires t c = 
+walk-enter_node-requires t c =
     let i = c.loop-value.invariant in
     (i.before.room, (omega arith, omega (arith, i.before.few, i.before.reached, i.most_is, i.most_small)))
 
 pub walk-returns : goal.walk-returns
-walk-returns t c = 
+walk-returns t c =
     let i = c.loop-value.invariant in
     let x = c.enter_node in
     let done : c.loop-value.value ≡ suc (maximum c.args.table.now c.args.field) = omega (arith, i.before.reached, i.most_is, c.loop-value-test.false) in record {
@@ -141,37 +140,37 @@ walk-returns t c =
 
 pub walk_once-returns-then-is_known : goal.walk_once-returns-then-is_known
 walk_once-returns-then-is_known t c = record {
-      walks =
-          known_near c.args.table.now c.args.field c.args.possible c.args.near c.args.seen.now c.requires.room.0 c.requires.room.2
-          (c.is_known.ensures c.if-is_known.true);
-      edges_kept = kept_both c.args.field c.requires.edge_rows;
-    }
+  walks =
+      known_near c.args.table.now c.args.field c.args.possible c.args.near c.args.seen.now c.requires.room.0 c.requires.room.2
+      (c.is_known.ensures c.if-is_known.true);
+  edges_kept = kept_both c.args.field c.requires.edge_rows;
+}
 
 pub walk_once-returns-then-place-gt0 : goal.walk_once-returns-then-place-gt0
 walk_once-returns-then-place-gt0 t c = record {
-      walks =
-          known_seen c.args.table.now c.args.field c.args.possible c.args.near c.args.seen.now c.slot_of-slot.result c.requires.room.0
-          c.recall-place.ensures.upper_bound c.if-place-gt0.true c.recall-place.ensures.slot;
-      edges_kept = kept_both c.args.field c.requires.edge_rows;
-    }
+  walks =
+      known_seen c.args.table.now c.args.field c.args.possible c.args.near c.args.seen.now c.slot_of-slot.result c.requires.room.0
+      c.recall-place.ensures.upper_bound c.if-place-gt0.true c.recall-place.ensures.slot;
+  edges_kept = kept_both c.args.field c.requires.edge_rows;
+}
 
 pub walk_once-walk-step-requires : goal.walk_once-walk-step-requires
 walk_once-walk-step-requires t c = (
-      omega (arith, c.decreases),
-      (c.requires.well_formed, ((c.requires.room.0, c.requires.room.1), c.requires.edge_rows)),
-    )
+  omega (arith, c.decreases),
+  (c.requires.well_formed, ((c.requires.room.0, c.requires.room.1), c.requires.edge_rows)),
+)
 
 pub walk_once-returns-then-step : goal.walk_once-returns-then-step
 walk_once-returns-then-step t c = record {
-      walks =
-          walked_anew c.args.table.now c.args.field c.args.possible c.args.near c.args.seen.now c.walk-step.new.seen c.walk-step.ensures.walks;
-      edges_kept = c.walk-step.ensures.edges_kept;
-    }
+  walks =
+      walked_anew c.args.table.now c.args.field c.args.possible c.args.near c.args.seen.now c.walk-step.new.seen c.walk-step.ensures.walks;
+  edges_kept = c.walk-step.ensures.edges_kept;
+}
 
 pub walk_once-returns : goal.walk_once-returns
 walk_once-returns t c = record {
-      walks =
-          walked_noted c.args.table.now c.args.field c.args.possible c.args.near c.args.seen.now c.walk-step.new.seen c.walk-step.ensures.walks
-          c.slot_of-slot.result c.remember.new.seen c.remember.ensures;
-      edges_kept = c.walk-step.ensures.edges_kept;
-    }
+  walks =
+      walked_noted c.args.table.now c.args.field c.args.possible c.args.near c.args.seen.now c.walk-step.new.seen c.walk-step.ensures.walks
+      c.slot_of-slot.result c.remember.new.seen c.remember.ensures;
+  edges_kept = c.walk-step.ensures.edges_kept;
+}

@@ -25,7 +25,7 @@ invariant-walk-loop-value l = record {
   near_small : l.near.place < most_places;
   before : Before (level_by l.table l.field (has l.possible)) (Held (Remembers l.table l.initial.seen) l.initial.diagram l.initial.index l.end)
       (RemembersNear l.table l.seen (l.field + 1) l.near) (length l.initial.diagram) l.initial.last l.initial.child l.diagram l.index l.last l.child
-      l.at l.edges l.value
+      l.at l.edges l.value;
 }
 
 abbrev pub decreases-walk-loop-value : goal.decreases-walk-loop-value

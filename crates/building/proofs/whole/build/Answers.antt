@@ -1,17 +1,13 @@
 -- `building::whole::build` meets its contract, on each way out.
 use mathlib.Core.Path.{sym, ap, ◌∙◌}
-use mathlib.Core.List.{List}
-use Prim.Native.Nat.{ℕ}
 use lib.ListN.{length}
 use Rattle.answer.specs.Answers.{zeros}
-use Rattle.encoding.specs.Layout.{HeaderHeld}
-use Rattle.table.specs.Reading.{Accepted}
 use Rattle.table.proofs.Accepting.{read_accepted, read_refused}
 use Rattle.table.proofs.AcceptedIsWellFormed.{well_formed}
 use Rattle.building.proofs.FieldByField.{header_there}
 use Rattle.building.proofs.WalkedAll.{too_short, walk_full, walk_done}
 use Rattle.building.proofs.BuildAnswers.{unread}
-use Rattle.std.proofs.Common.{arith, rules}
+use Rattle.std.proofs.Common.{arith}
 use Rattle.building.proofs.whole.build.Goals as goal
 
 pub returns-then-reading-ne0 : goal.returns-then-reading-ne0
