@@ -1,5 +1,5 @@
-//! Finds the static library, in the directory `KOLFSEIN_LIB_DIR` or else where `rt staticlib kolfsein` puts it, and
-//! refuses one of another interface.
+//! Finds the static library, in the directory `KOLFSEIN_LIB_DIR` or else where `rt lib` puts it, and refuses one of
+//! another interface.
 
 use std::path::PathBuf;
 use std::{env, fs, process};
@@ -11,7 +11,7 @@ fn main() {
     println!("cargo:rerun-if-env-changed=KOLFSEIN_LIB_DIR");
     let directory = match env::var_os("KOLFSEIN_LIB_DIR") {
         Some(directory) => PathBuf::from(directory),
-        None => package().join("../../target/staticlib"),
+        None => package().join("../../crates/kolfsein/out"),
     };
     let library = directory.join("libkolfsein.a");
     println!("cargo:rerun-if-changed={}", library.display());
@@ -35,7 +35,7 @@ fn has(bytes: &[u8], name: &[u8]) -> bool {
 /// Ends the build, with what is wrong and what to do.
 fn refuse(wrong: String) -> ! {
     eprintln!("{wrong}");
-    eprintln!("Run `rt staticlib kolfsein` at the top of the repository that this crate is of,");
+    eprintln!("Run `rt lib` in crates/kolfsein of the repository that this crate is of,");
     eprintln!("which writes the library, or set KOLFSEIN_LIB_DIR to the absolute path of the directory that has it.");
     process::exit(1);
 }

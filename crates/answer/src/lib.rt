@@ -16,7 +16,7 @@ pub const OTHERS: usize = FIELDS - 1;
 // A refusal's number and place; or number 0 and place 0, with the decision and the count, and with how many subjects a set has that
 // was ruled on.
 #[repr(C)]
-#[derive(Drop)]
+#[derive(Clone, Copy)]
 pub struct Answer {
     pub number: u8,
     pub decision: u8,
@@ -70,13 +70,13 @@ impl Answer {
 }
 
 // One value for each field, in field order.
-#[derive(Drop)]
+#[derive(Clone, Copy)]
 pub struct Request {
     pub values: [u16; FIELDS],
 }
 
 // A set of subjects that ask together, subject k as bit k, and one value for each other field, in field order.
-#[derive(Drop)]
+#[derive(Clone, Copy)]
 pub struct JointRequest {
     pub subjects: u64,
     pub others: [u16; OTHERS],

@@ -1,7 +1,7 @@
 -- The walk over the nodes for one value of a field: what it has so far, and one law for each way on.
 -- Assumes nothing.
 use mathlib.Core.Path.{◌≡◌, sym, ap, ap₂, ◌∙◌}
-use mathlib.Core.Bool.{Bool, true, false, ◌&&◌, ◌||◌, and_false, or_false}
+use mathlib.Core.Bool.{Bool, true, false, ◌&&◌, ◌||◌, and-false, or-false}
 use mathlib.Core.Logic.{⊎_elim}
 use mathlib.Core.List.{List}
 use Prim.Native.Nat.{ℕ, ◌+◌, ◌≤◌, ◌<◌}
@@ -67,7 +67,7 @@ module _ (t : List ℕ) (f v : ℕ) where
         more j =
             ⊎_elim
             (λ (m : j < i).
-            ap₂ (λ x y. (x && applies_in t f v j) || y) (lt-ltb j i m) (ne_eqb i j (λ z. omega arith)) ∙ or_false (applies_in t f v j)
+            ap₂ (λ x y. (x && applies_in t f v j) || y) (lt-ltb j i m) (ne_eqb i j (λ z. omega arith)) ∙ or-false (applies_in t f v j)
             ∙ sym (ap (λ x. x && applies_in t f v j) (lt-ltb j (i + 1) (omega arith))))
             (λ (m : i ≤ j).
             ap (λ x. (x && applies_in t f v j) || eqb i j) (le-ltb j i m)
@@ -94,7 +94,7 @@ module _ (t : List ℕ) (f v : ℕ) where
             (λ (m : i ≤ j).
             ⊎_elim
             (λ (r : j < end_of t i).
-            let no : (b : Bool) → (b && applies_in t f v j) ≡ false = λ b. ap (λ x. b && x) (applies_under_lem i j m r e) ∙ and_false b in
+            let no : (b : Bool) → (b && applies_in t f v j) ≡ false = λ b. ap (λ x. b && x) (applies_under_lem i j m r e) ∙ and-false b in
             no (ltb j i) ∙ sym (no (ltb j (end_of t i))))
             (λ (r : end_of t i ≤ j). ap (λ b. b && applies_in t f v j) (le-ltb j i m ∙ sym (le-ltb j (end_of t i) r)))
             (lt_or_ge j (end_of t i)))

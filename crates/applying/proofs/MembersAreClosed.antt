@@ -1,7 +1,7 @@
 -- The sets of nodes that the build walks over are closed: a node that is out takes all nodes under it out.
 -- Assumes nothing.
 use mathlib.Core.Path.{◌≡◌, refl, sym, ap, ◌∙◌, subst}
-use mathlib.Core.Bool.{Bool, true, false, ◌&&◌, and_false, true≢false}
+use mathlib.Core.Bool.{Bool, true, false, ◌&&◌, and-false, true≢false}
 use mathlib.Core.List.{List}
 use Prim.Native.Nat.{ℕ}
 use native.Mathlib.Omega.{arith}
@@ -22,14 +22,14 @@ module _ (t : List ℕ) where
   member_closed w f v i j l a b e =
       ap (λ x. ltb j (count t) && x)
       (throughout_down t (range_holds t f v) w i j l a b (sym (ap (λ x. x && applies_in t f v i) (lt-ltb i (count t) l)) ∙ e))
-      ∙ and_false (ltb j (count t))
+      ∙ and-false (ltb j (count t))
 
   -- what two closed sets have in common is closed
   pub meet_closed : (a b : ℕ → Bool) → Closed t a → Closed t b → Closed t (λ i. a i && b i)
   meet_closed a b ca cb i j l m n e = by (a i) refl e
     where
       by : (x : Bool) → a i ≡ x → (x && b i) ≡ false → (a j && b j) ≡ false
-      by true h e = ap (λ y. a j && y) (cb i j l m n e) ∙ and_false (a j)
+      by true h e = ap (λ y. a j && y) (cb i j l m n e) ∙ and-false (a j)
       by false h e = ap (λ y. y && b j) (ca i j l m n h)
 
   -- the numbers of a set are closed where the test that they pass is

@@ -1,7 +1,7 @@
 -- A node applies to a request exactly where it does in each field alone, and so the groups give what the nodes that are left give.
 -- Assumes nothing.
 use mathlib.Core.Path.{◌≡◌, sym, ap, ap₂, ◌∙◌}
-use mathlib.Core.Bool.{Bool, true, ◌&&◌, and_assoc, and_true}
+use mathlib.Core.Bool.{Bool, true, ◌&&◌, and_assoc, and-true}
 use mathlib.Core.List.{List, [], ◌∷◌}
 use Prim.Native.Nat.{ℕ, zero, suc, ◌+◌, ◌<◌}
 use native.Mathlib.Nat.{zero-add, add-zero}
@@ -21,7 +21,7 @@ use Rattle.applying.specs.Members.{range_holds, applies_in, member, still, rulin
 
 -- the first number of a test of each
 every_first : (n : ℕ) (p : ℕ → Bool) → every_below (suc n) p ≡ (p 0 && every_below n (λ k. p (suc k)))
-every_first zero p = sym (and_true (p 0))
+every_first zero p = sym (and-true (p 0))
 every_first (suc n) p = ap (λ b. b && p (suc n)) (every_first n p) ∙ and_assoc (p 0) (every_below n (λ k. p (suc k))) (p (suc n))
 
 module _ (t : List ℕ) where
@@ -41,7 +41,7 @@ module _ (t : List ℕ) where
 
   -- what is left is what all ranges that are left leave
   still_throughout : (q : List ℕ) (f : ℕ) (a : ℕ → Bool) (i : ℕ) → i < count t → still t f a q i ≡ (a i && throughout t (holds_from f q) i)
-  still_throughout [] f a i l = sym (and_true (a i)) ∙ ap (λ b. a i && b) (sym (throughout_true t i))
+  still_throughout [] f a i l = sym (and-true (a i)) ∙ ap (λ b. a i && b) (sym (throughout_true t i))
   still_throughout (v ∷ q) f a i l =
       still_throughout q (suc f) (λ j. a j && member t f v j) i l
       ∙ and_assoc (a i) (member t f v i) (throughout t (holds_from (suc f) q) i)

@@ -1,4 +1,6 @@
 // For each value of a field, the set of nodes that apply there in that field alone.
+#![tactic(auto)]
+
 ghost use Rattle.std.specs.Prelude.{◌≡◌, ℕ, ◌≤◌, ◌<◌, length};
 ghost use Rattle.answer.specs.Fields.{fields};
 ghost use Rattle.sets.specs.Sets.{Has};

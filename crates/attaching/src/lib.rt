@@ -1,4 +1,6 @@
 // Fitting an expansion to a base table.
+#![tactic(auto)]
+
 mod attaching;
 mod faults;
 mod writing;

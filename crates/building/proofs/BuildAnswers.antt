@@ -1,7 +1,7 @@
 -- What building answers and leaves in the lent diagram: by its refusals, and where it succeeds.
 -- Assumes nothing.
 use mathlib.Core.Path.{◌≡◌, refl, ap, ◌∙◌}
-use mathlib.Core.Bool.{true, false, ◌||◌, or_true}
+use mathlib.Core.Bool.{false, ◌||◌, or-true}
 use mathlib.Core.Logic.{◌⊎◌, ◌↔◌, ⊎_elim}
 use mathlib.Core.List.{List, [], ◌∷◌}
 use Prim.Native.Nat.{ℕ, ◌-◌, ◌≤◌, ◌<◌}
@@ -37,7 +37,7 @@ module _ (t : List ℕ) (n : ℕ) where
       (⊎_elim
       (λ (l : most_places < length (diagram_of t)). ap (λ b. b || ltb n (length (diagram_of t))) (lt-ltb most_places (length (diagram_of t)) l))
       (λ (l : n < length (diagram_of t)).
-      ap (λ b. ltb most_places (length (diagram_of t)) || b) (lt-ltb n (length (diagram_of t)) l) ∙ or_true (ltb most_places (length (diagram_of t))))
+      ap (λ b. ltb most_places (length (diagram_of t)) || b) (lt-ltb n (length (diagram_of t)) l) ∙ or-true (ltb most_places (length (diagram_of t))))
       h)
 
   fits_none : Fits → None (room_refusal t n ∷ [])

@@ -1,4 +1,6 @@
 // Building the diagram of a table, in the room that is lent.
+#![tactic(auto)]
+
 mod header;
 mod remembering;
 mod walking;

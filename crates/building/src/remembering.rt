@@ -12,7 +12,7 @@ use sets::Set;
 pub(crate) const SEEN: usize = 701;
 
 // A set of nodes, and the place of what was walked with it; place 0 where nothing was.
-#[derive(Drop)]
+#[derive(Clone, Copy)]
 pub(crate) struct Known {
     pub nodes: Set,
     pub place: usize,

@@ -33,7 +33,7 @@ const MOST: usize = 64;
 
 // A call, the set of subjects or the one subject that it asks about, the values of the other fields, and how many places or
 // bytes it is lent.
-#[derive(Drop)]
+#[derive(Clone, Copy)]
 pub(crate) struct Call {
     pub which: usize,
     pub subjects: u64,
@@ -43,7 +43,7 @@ pub(crate) struct Call {
 }
 
 // A set of subjects, and whether a text says it.
-#[derive(Drop)]
+#[derive(Clone, Copy)]
 struct Said {
     understood: bool,
     subjects: u64,

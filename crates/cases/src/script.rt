@@ -5,10 +5,11 @@ use crate::numbers::{first_difference, mark, wide};
 use crate::tally::Tally;
 use crate::text::{between, byte_at, find, scan};
 use answer::Answer;
+use std::io;
 use std::num::wrapping_add_usize;
 
 // Where the lines with the last table, the last expansion and the last diagram begin, and what was counted.
-#[derive(Drop)]
+#[derive(Clone, Copy)]
 struct State {
     table: usize,
     expansion: usize,
@@ -16,7 +17,7 @@ struct State {
     tally: Tally,
 }
 
-pub(crate) fn run(script: &[u8]) -> Tally {
+pub(crate) fn run(rt: &impl Print, script: &[u8]) -> io::Result<Tally> {
     let mut state = State {
         table: 0,
         expansion: 0,
@@ -25,41 +26,41 @@ pub(crate) fn run(script: &[u8]) -> Tally {
     };
     let mut from = 0;
     while from < script.len() {
-        state = state.line(script, from);
+        state = state.line(rt, script, from)?;
         let end = find(script, from, b'\n');
         if end >= script.len() {
-            return state.tally;
+            return Ok(state.tally);
         }
         from = end + 1;
     }
-    state.tally
+    Ok(state.tally)
 }
 
 impl State {
     // One line more: empty or a comment, a table, an expansion, a diagram, or else a case.
-    fn line(mut self, script: &[u8], from: usize) -> Self {
+    fn line(mut self, rt: &impl Print, script: &[u8], from: usize) -> io::Result<Self> {
         let line = line_at(script, from);
         if (line.len() == 0) | (byte_at(line, 0) == b'#') {
-            return self;
+            return Ok(self);
         }
         if fits(line, b"table %") {
             self.table = from;
-            return self;
+            return Ok(self);
         }
         if fits(line, b"expansion %") {
             self.expansion = from;
-            return self;
+            return Ok(self);
         }
         if fits(line, b"diagram *") {
             self.diagram = from;
-            return self;
+            return Ok(self);
         }
         let tally = self.tally;
         let table = line_at(script, self.table);
         let expansion = line_at(script, self.expansion);
         let diagram = line_at(script, self.diagram);
-        self.tally = tested(tally, line, table, expansion, diagram);
-        self
+        self.tally = tested(rt, tally, line, table, expansion, diagram)?;
+        Ok(self)
     }
 }
 
@@ -110,7 +111,14 @@ fn is_case(line: &[u8]) -> bool {
 
 // A case, with the lines of its table, its expansion and its diagram: its call is made. What is lent holds a mark before it
 // at each place, another number than the one that is due there.
-fn tested(tally: Tally, line: &[u8], table: &[u8], expansion: &[u8], diagram: &[u8]) -> Tally {
+fn tested(
+    rt: &impl Print,
+    tally: Tally,
+    line: &[u8],
+    table: &[u8],
+    expansion: &[u8],
+    diagram: &[u8],
+) -> io::Result<Tally> {
     let call = calls::named(part(line, CALL));
     let changes = part(line, CHANGES);
     let mut lent = [0; PLACES];
@@ -118,27 +126,34 @@ fn tested(tally: Tally, line: &[u8], table: &[u8], expansion: &[u8], diagram: &[
     mark(&mut lent);
     let given = calls::ask(call, table, expansion, diagram, changes, &mut lent);
     if given.number == calls::NOT_ASKED {
-        return tally.not_understood(part(line, NAME));
+        return tally.not_understood(rt, part(line, NAME));
     }
-    compared(tally, line, call, given, &lent)
+    compared(rt, tally, line, call, given, &lent)
 }
 
 // What a call gave, and what it left in all that it could be lent, compared with what the case says.
-fn compared(tally: Tally, line: &[u8], call: Call, given: Answer, lent: &[u16; PLACES]) -> Tally {
+fn compared(
+    rt: &impl Print,
+    tally: Tally,
+    line: &[u8],
+    call: Call,
+    given: Answer,
+    lent: &[u16; PLACES],
+) -> io::Result<Tally> {
     let mut due = [0; 5];
     let answer = scan(part(line, ANSWER), b"*", &mut due);
     let mut written = [0; PLACES];
     let list = scan(part(line, WRITTEN), b"*", &mut written);
     let whole = is_case(line) & answer.fits & (answer.count == 5) & list.fits;
     if !whole | (list.count > call.places) {
-        return tally.not_understood(part(line, NAME));
+        return tally.not_understood(rt, part(line, NAME));
     }
     let counted = tally.due(call.which, wide(due[0]));
     let place = first_difference(lent, &written, call.places);
     if is_due(given, due) & (place == call.places) {
-        return counted;
+        return Ok(counted);
     }
-    counted.differs(part(line, NAME), given, place, call.places)
+    counted.differs(rt, part(line, NAME), given, place, call.places)
 }
 
 // Whether an answer has the number, place, decision, count and subjects that are due.

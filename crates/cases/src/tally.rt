@@ -3,6 +3,7 @@ ghost use Rattle.std.specs.Prelude.{◌<◌};
 
 use crate::calls::{ATTACH, BUILD, CALLS, LOOK_UP, READ, READ_STANDARD, RULE, RULE_STANDARD};
 use answer::Answer;
+use std::io;
 use std::num::wrapping_add_usize;
 
 // The numbers of a call's answers are less than this.
@@ -14,7 +15,7 @@ const DIFFERENCES: usize = CALLS * NUMBERS;
 const COUNTS: usize = DIFFERENCES + 1;
 
 // How many cases are due each number, for one call after another; and how many differ.
-#[derive(Drop)]
+#[derive(Clone, Copy)]
 pub(crate) struct Tally {
     pub counts: [usize; COUNTS],
 }
@@ -32,24 +33,31 @@ impl Tally {
     }
 
     // A line that says no case that can be made.
-    pub(crate) fn not_understood(self, name: &[u8]) -> Self {
-        io::write_all(1, name);
-        io::write_all(1, b": not understood\n");
-        self.add(DIFFERENCES)
+    pub(crate) fn not_understood(self, rt: &impl Print, name: &[u8]) -> io::Result<Self> {
+        rt.write_all(name)?;
+        rt.write_all(b": not understood\n")?;
+        Ok(self.add(DIFFERENCES))
     }
 
     // A case with another answer, or with another number than is due at some lent place.
-    pub(crate) fn differs(self, name: &[u8], answer: Answer, place: usize, places: usize) -> Self {
-        io::write_all(1, name);
-        item(b": answered", answer.number as usize);
-        item(b"", answer.place);
-        item(b"", answer.decision as usize);
-        item(b"", answer.count);
-        item(b"", answer.subjects);
-        item(b", written as due up to place", place);
-        item(b" of", places);
-        io::write_all(1, b"\n");
-        self.add(DIFFERENCES)
+    pub(crate) fn differs(
+        self,
+        rt: &impl Print,
+        name: &[u8],
+        answer: Answer,
+        place: usize,
+        places: usize,
+    ) -> io::Result<Self> {
+        rt.write_all(name)?;
+        item(rt, b": answered", answer.number as usize)?;
+        item(rt, b"", answer.place)?;
+        item(rt, b"", answer.decision as usize)?;
+        item(rt, b"", answer.count)?;
+        item(rt, b"", answer.subjects)?;
+        item(rt, b", written as due up to place", place)?;
+        item(rt, b" of", places)?;
+        rt.write_all(b"\n")?;
+        Ok(self.add(DIFFERENCES))
     }
 
     fn add(mut self, at: usize) -> Self {
@@ -60,50 +68,56 @@ impl Tally {
     }
 
     // A line for each call, and one for the differences.
-    pub(crate) fn print(self) {
+    pub(crate) fn print(self, rt: &impl Print) -> io::Result<()> {
         let counts = self.counts;
-        print_call(b"read:", counts, READ);
-        print_call(b"rule:", counts, RULE);
-        print_call(b"read_standard:", counts, READ_STANDARD);
-        print_call(b"rule_standard:", counts, RULE_STANDARD);
-        print_call(b"build:", counts, BUILD);
-        print_call(b"attach:", counts, ATTACH);
-        print_call(b"look_up:", counts, LOOK_UP);
-        item(b"differences", counts[DIFFERENCES]);
-        io::write_all(1, b"\n");
+        print_call(rt, b"read:", counts, READ)?;
+        print_call(rt, b"rule:", counts, RULE)?;
+        print_call(rt, b"read_standard:", counts, READ_STANDARD)?;
+        print_call(rt, b"rule_standard:", counts, RULE_STANDARD)?;
+        print_call(rt, b"build:", counts, BUILD)?;
+        print_call(rt, b"attach:", counts, ATTACH)?;
+        print_call(rt, b"look_up:", counts, LOOK_UP)?;
+        item(rt, b"differences", counts[DIFFERENCES])?;
+        rt.write_all(b"\n")
     }
 }
 
-fn print_call(name: &[u8], counts: [usize; COUNTS], call: usize) {
-    io::write_all(1, name);
-    item(b" in all", print_counts(counts, call));
-    io::write_all(1, b"\n");
+fn print_call(
+    rt: &impl Print,
+    name: &[u8],
+    counts: [usize; COUNTS],
+    call: usize,
+) -> io::Result<()> {
+    rt.write_all(name)?;
+    item(rt, b" in all", print_counts(rt, counts, call)?)?;
+    rt.write_all(b"\n")
 }
 
 // How many cases of a call are due each number, where any are; how many there are in all.
-fn print_counts(counts: [usize; COUNTS], call: usize) -> usize {
+fn print_counts(rt: &impl Print, counts: [usize; COUNTS], call: usize) -> io::Result<usize> {
     let mut cases = 0;
     let mut number = 0;
     while number < NUMBERS {
         let count = counts[NUMBERS * (call % CALLS) + number];
-        print_count(count, number);
+        print_count(rt, count, number)?;
         cases = wrapping_add_usize(cases, count);
         number += 1;
     }
-    cases
+    Ok(cases)
 }
 
-fn print_count(count: usize, number: usize) {
+fn print_count(rt: &impl Print, count: usize, number: usize) -> io::Result<()> {
     if count > 0 {
-        item(b"", count);
-        item(b" due", number);
-        io::write_all(1, b",");
+        item(rt, b"", count)?;
+        item(rt, b" due", number)?;
+        rt.write_all(b",")?;
     }
+    Ok(())
 }
 
 // A number after a word.
-fn item(word: &[u8], number: usize) {
-    io::write_all(1, word);
-    io::write_all(1, b" ");
-    io::print_decimal(1, number as u64);
+fn item(rt: &impl Print, word: &[u8], number: usize) -> io::Result<()> {
+    rt.write_all(word)?;
+    rt.write_all(b" ")?;
+    rt.print(number)
 }

@@ -36,7 +36,7 @@ pub(crate) fn byte_at(text: &[u8], at: usize) -> u8 {
 
 // How far a text is read: whether it is worded as the pattern, how many of its numbers have ended, the place in the
 // pattern, and the value so far of another number, if its digits have begun.
-#[derive(Drop)]
+#[derive(Clone, Copy)]
 pub(crate) struct Scanned {
     pub fits: bool,
     pub count: usize,

@@ -7,7 +7,7 @@ ghost use Rattle.combining.specs.Running.{Started, Takes, Taken};
 ghost use Rattle.combining.specs.Table.{only_one_row, first_row, row_of, Combines};
 
 // The four decisions, by number.
-#[derive(Drop)]
+#[derive(Clone, Copy)]
 pub struct Decision {
     pub value: u8,
 }
@@ -27,7 +27,7 @@ impl Decision {
 }
 
 // The kinds of nodes, by number: four of groups, two of rules.
-#[derive(Drop)]
+#[derive(Clone, Copy)]
 pub struct Kind {
     pub value: u8,
 }
@@ -139,7 +139,7 @@ fn row_of(kind: u8, running: u8, counted: bool, counts: bool) -> usize
 }
 
 // A group's decision so far (document 01's running decision) and whether a child has counted, with the group's kind.
-#[derive(Drop)]
+#[derive(Clone, Copy)]
 pub struct Running {
     pub kind: u8,
     pub decision: u8,

@@ -1,4 +1,6 @@
 // Ruling by the set of nodes that apply, from one member to the next.
+#![tactic(auto)]
+
 ghost use Rattle.std.specs.Prelude.{◌≡◌, true, ◌<◌, length};
 ghost use Rattle.std.proofs.lemmas.List.Edits.{sets};
 ghost use Rattle.combining.specs.Table.{Combines};

@@ -15,7 +15,7 @@ pub const SLOTS: usize = 8192;
 const TRIES: usize = 32;
 
 // What entering leaves: the place after the last entry, the place of what was entered, and whether there was no room.
-#[derive(Drop)]
+#[derive(Clone, Copy)]
 pub struct Step {
     pub end: usize,
     pub place: usize,
@@ -98,7 +98,7 @@ fn wide(place: u16) -> usize
 }
 
 // Where an equal entry stands, or the end; and the slot in which a new one is to be noted, SLOTS for none.
-#[derive(Drop)]
+#[derive(Clone, Copy)]
 struct Found {
     pub place: usize,
     pub slot: usize,

@@ -1,4 +1,6 @@
 // The library's calls for C. `include/kolfsein.h` declares them: a slice is a pointer and then its length.
+#![tactic(auto)]
+
 ghost use Rattle.std.specs.Prelude.{◌≡◌, [], ◌∷◌, length};
 ghost use Rattle.table.specs.Reading.{reading};
 ghost use Rattle.ruling.specs.Ruling.{ruling, ruled_list};

@@ -51,7 +51,7 @@ pub(crate) fn first_of(diagram: &[u16], place: usize, edge: usize) -> usize
 }
 
 // Where a path ends, and the place after its ranges.
-#[derive(Drop)]
+#[derive(Clone, Copy)]
 struct Reached {
     terminal: usize,
     end: usize,

@@ -13,7 +13,7 @@ use crate::paths::{After, next};
 use answer::FIELDS;
 
 // The place after a page's lines, and the request that its last line is followed by.
-#[derive(Drop)]
+#[derive(Clone, Copy)]
 pub struct Page {
     pub end: usize,
     pub after: After,

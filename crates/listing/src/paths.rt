@@ -11,7 +11,7 @@ use answer::FIELDS;
 use lookup::edge_of;
 
 // A request that follows, or none, with zeros for it.
-#[derive(Drop)]
+#[derive(Clone, Copy)]
 pub struct After {
     pub more: bool,
     pub values: [u16; FIELDS],

@@ -17,7 +17,7 @@ use encoding::layout::{card_at, count_at, kind_at, short_span_at};
 use targets::members_left;
 
 // A decision, and how many cards there are so far.
-#[derive(Drop)]
+#[derive(Clone, Copy)]
 pub struct Ruled {
     pub decision: u8,
     pub count: usize,

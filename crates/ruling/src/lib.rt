@@ -1,4 +1,6 @@
 // Ruling by a table's groups, with every matching card.
+#![tactic(auto)]
+
 pub mod groups;
 mod ruling;
 

@@ -1,6 +1,10 @@
 // Prints what a table rules, read from standard input: a line for each path of its diagram, or the refusal.
+#![tactic(auto)]
+
+ghost use Rattle.std.specs.Prelude.{◌≡◌, length};
 ghost use Rattle.answer.specs.Fields.{fields};
 ghost use Rattle.diagram.specs.Sound.{Sound};
+ghost use Rattle.std.specs.Io.{ReadsAtMost};
 
 use answer::FIELDS;
 use building::build;
@@ -9,51 +13,76 @@ use encoding::layout::MOST_BYTES;
 use listing::LINE;
 use listing::lines::{fields_line, refused_line};
 use listing::pages::fill;
+use std::io;
+use std::io::Read;
+
+// How many bytes of the listing are written at a time.
+const PAGE: usize = 65536;
 
 // More input than a table can have is refusal 1, at 0.
-fn main() {
+fn main(rt: HostRuntime) -> io::Result<()> {
     let mut input = [0u8; MOST_BYTES + 1];
-    let n = io::read_full(0, &mut input);
+    let n = read_full(&mut rt.stdin(), &mut input)?;
     if n > MOST_BYTES {
-        print_refusal(1, 0);
-        return;
+        return print_refusal(&rt, 1, 0);
     }
-    print_rulings(&input[..n]);
+    print_rulings(&rt, &input[..n])
+}
+
+// Reads until the buffer is full or the input ends, and returns how many bytes it put at the start of the buffer.
+fn read_full(input: &mut impl Read, buffer: &mut [u8]) -> io::Result<usize>
+    ensures { ReadsAtMost result buffer.new }
+{
+    let mut done = 0;
+    while done < buffer.len() {
+        let n = input.read(&mut buffer[done..])?;
+        if n == 0 {
+            return Ok(done);
+        }
+        done += n;
+    }
+    Ok(done)
 }
 
 // Builds the table's diagram, and prints what it rules.
-fn print_rulings(table: &[u8]) {
+fn print_rulings(rt: &impl Print, table: &[u8]) -> io::Result<()> {
     let mut diagram = [0u16; MOST_PLACES];
     let built = build(table, &mut diagram);
     if built.number != 0 {
-        print_refusal(built.number, built.place);
-        return;
+        return print_refusal(rt, built.number, built.place);
     }
-    print_listing(&diagram);
+    print_listing(rt, &diagram)
 }
 
-fn print_refusal(number: u8, place: usize) {
+fn print_refusal(rt: &impl Print, number: u8, place: usize) -> io::Result<()> {
     let mut text = [0u8; LINE];
     let end = refused_line(number, place, &mut text, 0);
-    io::write_all(1, &text[..end]);
+    rt.write_all(&text[..end])
 }
 
 // Prints every path of a sound diagram, in rising order, a text full of lines at a time.
-fn print_listing(diagram: &[u16])
+fn print_listing(rt: &impl Print, diagram: &[u16]) -> io::Result<()>
     requires { Sound fields diagram.now }
 {
-    let mut text = io::large_buffer();
+    let mut text = empty_page();
     let mut end = fields_line(diagram, &mut text, 0);
     let mut values = [0u16; FIELDS];
     loop {
         let page = fill(diagram, values, &mut text, end);
         let full = page.end;
-        io::write_all(1, &text[..full]);
+        rt.write_all(&text[..full])?;
         let after = page.after;
         if !after.more {
-            return;
+            return Ok(());
         }
         values = after.values;
         end = 0;
     }
+}
+
+// The `ensures` gives only the length, which lending the page as a slice needs.
+fn empty_page() -> [u8; PAGE]
+    ensures { PAGE ≡ length result }
+{
+    [0; PAGE]
 }

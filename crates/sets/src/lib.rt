@@ -61,7 +61,7 @@ fn next_at(word: u64, i: usize) -> usize
 }
 
 // The low word has the numbers below 64, the high word those from 64 on.
-#[derive(Drop)]
+#[derive(Clone, Copy)]
 pub struct Set {
     pub low: u64,
     pub high: u64,

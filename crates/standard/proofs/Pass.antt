@@ -87,7 +87,7 @@ module _ (t : List ℕ) (w : WellFormed t) where
           rules_here = sym (get_or-set_same rules i f.rules 0 (omega (arith, h.rule_rows.room)));
           groups_here = sym (get_or-set_same groups i f.groups 0 (omega (arith, h.group_rows.room)));
           mixed = rw em (lowest_with (count t) (mixed_group t) i after.mixed l h.mixed (mixed_group t i) refl);
-          in_only_one_lem = rw eo (lowest_with (count t) (rule_in_only_one t) i after.in_only_one l h.in_only_one_lem (rule_in_only_one t i) refl);
+          in_only_one = rw eo (lowest_with (count t) (rule_in_only_one t) i after.in_only_one l h.in_only_one (rule_in_only_one t i) refl);
         }
 
     -- a rule
@@ -140,7 +140,7 @@ found_none t n l i e f er eg em eo =
       rules_here = er ∙ sym none;
       groups_here = eg ∙ sym none;
       mixed = lowest (mixed_group t) f.mixed (em ∙ e);
-      in_only_one_lem = lowest (rule_in_only_one t) f.in_only_one (eo ∙ e);
+      in_only_one = lowest (rule_in_only_one t) f.in_only_one (eo ∙ e);
     })
   where
     none : get_or (zeros n) (count t) 0 ≡ 0
@@ -194,13 +194,13 @@ module _ (t : List ℕ) {rules groups : List ℕ} {f : Found} (h : FoundFrom t 0
         sym
         (settled_first refused (counted (count t)) (profile_refusals t)
         (first_in (mixed t ++ in_only_one t) (root t)
-        (first_after (mixed t) (in_only_one t) none_mixed (first_at_fault 15 (rule_in_only_one t) f.in_only_one h.in_only_one_lem l))))
+        (first_after (mixed t) (in_only_one t) none_mixed (first_at_fault 15 (rule_in_only_one t) f.in_only_one h.in_only_one l))))
 
     module _ (none-one : count t ≤ f.in_only_one) where
       none_before : None (mixed t ++ in_only_one t)
       none_before =
           all_join (λ r. r.when ≡ false) (mixed t) (in_only_one t) none_mixed
-          (none_at_fault 15 (rule_in_only_one t) f.in_only_one h.in_only_one_lem none-one)
+          (none_at_fault 15 (rule_in_only_one t) f.in_only_one h.in_only_one none-one)
 
       -- 16
       pub found_rule_root : is_rule t 0 ≡ true → refused 16 0 ≡ profiled t

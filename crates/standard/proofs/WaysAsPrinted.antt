@@ -2,29 +2,21 @@
 -- the children, for any test of which apply.
 -- Assumes nothing.
 use mathlib.Core.Path.{◌≡◌, refl, sym, ap, ap₂, ◌∙◌}
-use mathlib.Core.Bool.{Bool, true, false, not, cond, ◌&&◌, ◌||◌, true≢false}
+use mathlib.Core.Bool.{Bool, true, false, not, cond, ◌&&◌, ◌||◌}
 use mathlib.Core.List.{List, [], ◌∷◌, map}
-use mathlib.Core.Option.{Option, none, some}
-use Prim.Native.Nat.{ℕ, ◌≤◌, ◌<◌}
-use native.Mathlib.Omega.{arith}
+use mathlib.Core.Option.{some}
+use Prim.Native.Nat.{ℕ, ◌<◌}
 use lib.Dec.{eqb}
 use lib.ListN.{get_or}
-use Rattle.answer.proofs.Tests.{and_false, or_false}
-use Rattle.combining.specs.Kinds.{only_one_applicable_kind, permit_rule_kind}
-use Rattle.combining.specs.Ways.{not_applicable, permit, deny, indeterminate, Child, absent, decisions, counting, applicable, first_applicable, sole, only_one_applicable, any, permit_overrides, deny_overrides, way}
+use Rattle.answer.proofs.Tests.{or_false}
+use Rattle.combining.specs.Kinds.{only_one_applicable_kind}
+use Rattle.combining.specs.Ways.{not_applicable, permit, deny, indeterminate, Child, decisions, counting, applicable, first_applicable, sole, only_one_applicable, any, permit_overrides, deny_overrides, way}
 use Rattle.combining.proofs.Fold.{pick, absent_first, way_none}
-use Rattle.encoding.specs.Layout.{count, kind}
-use Rattle.table.specs.Tree.{is_rule}
-use Rattle.table.specs.Reading.{Accepted}
-use Rattle.table.proofs.AcceptedIsWellFormed.{well_formed}
-use Rattle.ruling.specs.Forest.{under, children_of}
-use Rattle.targets.specs.Closed.{Closed}
-use Rattle.ruling.specs.Meaning.{gives, child_of, children, decision}
-use Rattle.ruling.proofs.ChildrenByParents.{EachOf, children_each}
-use Rattle.ruling.proofs.DecisionByChildren.{decision_by_children}
-use Rattle.ruling.proofs.Decisions.{gives_not, gives_rule, gives_group, decision_below, ruled_not, child_absent}
+use Rattle.ruling.specs.Meaning.{child_of, decision}
+use Rattle.ruling.proofs.ChildrenByParents.{EachOf}
+use Rattle.ruling.proofs.Decisions.{decision_below, ruled_not, child_absent}
 use Rattle.standard.specs.AppendixC.{Rule, Policy, any_of, ended_by, decides, rule_gives, policy_gives, rule_deny_overrides, rule_permit_overrides, rule_first_applicable, policy_deny_overrides, policy_permit_overrides, policy_first_applicable, policy_only_one_applicable, is_untold, is_matched, from_matched, by_matched, rule_combining, policy_combining}
-use Rattle.standard.specs.AsPrinted.{as_rule, told, as_policy, rules_of, policies_of}
+use Rattle.standard.specs.AsPrinted.{as_rule, told, as_policy}
 
 -- where a child ends it with a result that is the same for all that do
 ended : {C : Type 0} (ends : C → Bool) (x atEnd : ℕ) (cs : List C) → ended_by ends (λ c. x) atEnd cs ≡ cond (any_of ends cs) x atEnd

@@ -28,4 +28,4 @@ pub record FoundFrom (t : List ℕ) (i : ℕ) (rules groups : List ℕ) (f : Fou
   pub rules_here : f.rules ≡ get_or rules i 0
   pub groups_here : f.groups ≡ get_or groups i 0
   pub mixed : Lowest (count t) (mixed_group t) i f.mixed
-  pub in_only_one_lem : Lowest (count t) (rule_in_only_one t) i f.in_only_one
+  pub in_only_one : Lowest (count t) (rule_in_only_one t) i f.in_only_one

@@ -1,4 +1,6 @@
 // The convention profile: tables that are XACML 2.0 as printed.
+#![tactic(auto)]
+
 mod profile;
 mod standard;
 

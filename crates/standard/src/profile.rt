@@ -13,7 +13,7 @@ use table::reading::rule_at;
 // What the nodes from one on show: how many rules and how many groups stand on its row from it on, and the lowest group that holds both
 // and the lowest only-one-applicable group that holds a rule; the number of nodes where there is none. A row goes on past the end of the
 // parent: a group holds what stands on the row of its first child and not on the one of the node where it ends.
-#[derive(Drop)]
+#[derive(Clone, Copy)]
 pub(crate) struct Found {
     pub rules: u8,
     pub groups: u8,

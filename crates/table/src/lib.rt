@@ -1,4 +1,6 @@
 // Tables of rules: reading them, and the levels of their nodes.
+#![tactic(auto)]
+
 pub mod levels;
 pub mod reading;
 

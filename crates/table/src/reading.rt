@@ -209,7 +209,7 @@ fn asks_for_rules(table: &[u8], i: usize) -> bool
 
 // What a reading finds: the number and the place of the first refusal, or 0; and where there is none, whether the table conforms to the
 // convention profile.
-#[derive(Drop)]
+#[derive(Clone, Copy)]
 pub struct Reading {
     pub number: u8,
     pub place: usize,

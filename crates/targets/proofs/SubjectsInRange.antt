@@ -2,7 +2,7 @@
 -- Assumes nothing.
 use Rattle.std.proofs.Common.{◌≡◌, ℕ, ◌+◌, ◌-◌, ◌*◌, ◌/◌, ◌%◌, ◌^◌, ◌<◌, ◌≤◌, Bool, true, false, not, ◌&&◌, ◌||◌, eqb, ltb, leb, List, ◌∷◌, sym, refl, ap, ◌∙◌, ap₂, ⊎_elim, arith, le-ltb, lt-ltb, eqb-true, le-leb}
 use borrow.Author.Tests.{lt-leb}
-use lib.Bits.{bit_and, bit_or}
+use lib.Bits.{bit_and as word_and, bit_or as word_or}
 use lib.Count.{count_trailing_zeros}
 use Rattle.answer.specs.Below.{some_below}
 use Rattle.answer.proofs.Below.{some_where, some_none, some_same}
@@ -51,10 +51,10 @@ set_up_to high n e k m =
 
 -- the set of a range, from those of its ends
 module _ (low high a b : ℕ) (from_low : SetOf a (leb low)) (up-to-high : SetOf b (λ k. leb k high)) where
-  pub set_unwrapped : low ≤ high → SetOf (bit_and a b) (in_range low high)
+  pub set_unwrapped : low ≤ high → SetOf (word_and a b) (in_range low high)
   set_unwrapped l k m = bit_and a b k ∙ ap₂ (λ x y. x && y) (from_low k m) (up-to-high k m) ∙ sym (in_unwrapped low high k l)
 
-  pub set_wrapped : high < low → SetOf (bit_or a b) (in_range low high)
+  pub set_wrapped : high < low → SetOf (word_or a b) (in_range low high)
   set_wrapped l k m = bit_or a b k ∙ ap₂ (λ x y. x || y) (from_low k m) (up-to-high k m) ∙ sym (in_wrapped low high k l)
 
 -- the members that are left of a set, by a target that is tested from the word w
@@ -71,7 +71,7 @@ module _ (w : ℕ) (others : List ℕ) (s : ℕ) (b : Bool) (e : b ≡ others_ho
 
   -- where the other values lie in their ranges: those in the range of subjects
   pub left_some : b ≡ true → s < 2 ^ 64 → (low high r : ℕ) → low ≡ low_of w 0 → high ≡ high_of w 0 → SetOf r (in_range low high) →
-      (k : ℕ) → member (bit_and s r) k ≡ member s k && target_holds_from w (k ∷ others)
+      (k : ℕ) → member (word_and s r) k ≡ member s k && target_holds_from w (k ∷ others)
   left_some y fits low high r el eh is k =
       bit_and s r k ∙ ⊎_elim within past (lt_or_ge k 64)
       ∙ ap (λ x. member s k && x)

@@ -1,4 +1,6 @@
 // Which subjects a target holds for: those in its range of subjects, where every other value lies in its range.
+#![tactic(auto)]
+
 ghost use Rattle.std.specs.Prelude.{◌≡◌, ℕ, ◌<◌, ◌&&◌, ◌∷◌, nat_le};
 ghost use Rattle.encoding.specs.Layout.{NodeHeld};
 ghost use Rattle.targets.specs.Targets.{in_range, target_holds, target_holds_from};

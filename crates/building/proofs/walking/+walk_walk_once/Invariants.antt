@@ -1,0 +1,32 @@
+-- Before a value, those below it are walked. The fields left fall.
+use Rattle.std.proofs.Common.{◌≡◌, ◌+◌, ◌-◌, ◌*◌, ◌≤◌, ◌<◌, length}
+use Rattle.answer.specs.Fields.{fields}
+use Rattle.sets.specs.Sets.{has}
+use Rattle.encoding.specs.Layout.{maximum}
+use Rattle.diagram.specs.Layout.{most_places}
+use Rattle.entering.specs.Walking.{Held}
+use Rattle.entering.proofs.ValueByValue.{Before}
+use Rattle.building.specs.Walked.{Remembers, RemembersNear}
+use Rattle.building.proofs.FieldByField.{level_by}
+use Rattle.building.proofs.walking.+walk_walk_once.Given as goal
+
+abbrev pub decreases-walk : goal.decreases-walk
+decreases-walk l = 2 * (fields - l.field)
+
+abbrev pub decreases-walk_once : goal.decreases-walk_once
+decreases-walk_once l = 2 * (fields - l.field) + 1
+
+-- what holds before a value of a field
+abbrev pub invariant-walk-loop-value : goal.invariant-walk-loop-value
+invariant-walk-loop-value l = record {
+  inside : l.field < fields;
+  most_is : l.most ≡ maximum l.table l.field;
+  most_small : l.most ≤ 255;
+  near_small : l.near.place < most_places;
+  before : Before (level_by l.table l.field (has l.possible)) (Held (Remembers l.table l.initial.seen) l.initial.diagram l.initial.index l.end)
+      (RemembersNear l.table l.seen (l.field + 1) l.near) (length l.initial.diagram) l.initial.last l.initial.child l.diagram l.index l.last l.child
+      l.at l.edges l.value;
+}
+
+abbrev pub decreases-walk-loop-value : goal.decreases-walk-loop-value
+decreases-walk-loop-value l = l.most + 1 - l.value

@@ -1,0 +1,7 @@
+-- `numbers::first_difference` is safe and ends: the loop counts up to the end.
+-- Assumes nothing.
+use Rattle.std.proofs.Common.{◌-◌}
+use Rattle.cases.proofs.numbers.first_difference.Given as goal
+
+abbrev pub decreases-loop-at : goal.decreases-loop-at
+decreases-loop-at l = l.end - l.at

@@ -1,0 +1,125 @@
+-- `ruling::groups::rule_read` meets its contract: the root is ruled with all nodes under it for the members that are left there, or none is left and
+-- there is nothing.
+use mathlib.Core.Path.{◌≡◌, refl}
+use mathlib.Core.Bool.{Bool, false, ◌&&◌}
+use mathlib.Core.List.{List, ◌∷◌}
+use Prim.Native.Nat.{ℕ, ◌^◌, ◌≤◌, ◌<◌}
+use lib.ListN.{length}
+use lib.Seq.{sets}
+use Rattle.encoding.specs.Layout.{count}
+use Rattle.table.specs.WellFormed.{WellFormed}
+use Rattle.encoding.proofs.Places.{header_held}
+use Rattle.targets.specs.Targets.{target_holds}
+use Rattle.targets.specs.Subjects.{applies_to_some, member}
+use Rattle.ruling.specs.Meaning.{decision, cards}
+use Rattle.ruling.specs.Walk.{AppliesToEach, Node, Gathered}
+use Rattle.ruling.proofs.MembersLeft.{members_root, members_down, left_each, left_applies, left_same, none_left}
+use Rattle.ruling.proofs.RulingGoesByWhichApply.{ruled_same}
+use Rattle.ruling.proofs.Steps.{held, root, children, gathered_not, all_gathered}
+use Rattle.ruling.proofs.NodeByKind.{by_rule, by_group}
+use Rattle.ruling.proofs.Decisions.{ruled_not}
+use Rattle.std.proofs.Common.{arith}
+use Rattle.ruling.proofs.groups.rule_read.Goals as goal
+
+-- once the members that are left at the root are known, and how many nodes there are
+module _ (t : List ℕ) (w : WellFormed t) (others : List ℕ) (s left : ℕ)
+    (is : (k : ℕ) → member left k ≡ member s k && target_holds t (k ∷ others) 0) (end : ℕ) (counted : end ≡ count t) where
+  abbrev a : ℕ → Bool
+  a = applies_to_some t s others
+
+  abbrev b : ℕ → Bool
+  b = applies_to_some t left others
+
+  each : AppliesToEach t left others 0
+  each = left_each t others s left 0 is (w.spans 0 w.some) (members_root t others s)
+
+  alike : (j : ℕ) → 0 ≤ j → j < count t → a j ≡ b j
+  alike j lo hi = left_same t others s left 0 is j lo (omega (arith, w.root))
+
+  node : left < 2 ^ 64 → 0 < left → Node b t 0 end 0
+  node l p = root b t w end counted (left_applies t others s left 0 is l p each)
+
+  -- what the root gives and gathers for those that are left is what it does for the whole set
+  whole : {d n : ℕ} {before after : List ℕ} → (d ≡ decision b t 0) × Gathered b t 0 end 0 n before after →
+      ((d ≡ decision a t 0) × (n ≡ length (cards a t))) × (after ≡ sets before 0 (cards a t))
+  whole {d} {n} {before} {after} g =
+      let inside : count t ≤ count t = omega arith in
+      let r =
+      ruled_same a b t w inside alike (omega arith) (omega (arith, counted, w.some)) (omega (arith, counted, w.root)) (omega (arith, counted)) g in
+      let all = all_gathered a t end n before after counted r.1 in
+      ((r.0, all.0), all.1)
+
+pub members_left-left-requires : goal.members_left-left-requires
+members_left-left-requires c = held c.args.table.now c.requires 0 c.requires.some
+
+pub returns-then-left-eq0 : goal.returns-then-left-eq0
+returns-then-left-eq0 c =
+    let t = c.args.table.now in
+    let w = c.requires in
+    let which = applies_to_some t c.args.subjects c.args.others.now in
+    let list = c.args.cards.now in
+    let out : (j : ℕ) → 0 ≤ j → j < count t → which j ≡ false =
+    λ j lo hi. none_left t c.args.others.now c.args.subjects c.members_left-left.result 0 c.members_left-left.ensures c.if-left-eq0.true j lo (omega (arith, w.root)) in
+    let g = all_gathered which t (count t) 0 list list refl (gathered_not which t w 0 (count t) 0 list out) in
+    record {
+      decision_value = (ruled_not which t 0 (out 0 (omega arith) w.some), g.0);
+      cards_after = g.1;
+    }
+
+pub count_at-count-requires : goal.count_at-count-requires
+count_at-count-requires c = header_held c.args.table.now c.requires.records
+
+pub kind_at-kind-requires : goal.kind_at-kind-requires
+kind_at-kind-requires c = held c.args.table.now c.requires 0 c.requires.some
+
+pub rule_run-requires : goal.rule_run-requires
+rule_run-requires c =
+    let t = c.args.table.now in
+    let others = c.args.others.now in
+    let left = c.members_left-left.result in
+    let n =
+    node t c.requires others c.args.subjects left c.members_left-left.ensures c.count_at-count.result c.count_at-count.ensures.0 (omega arith)
+    (omega (arith, c.if-left-eq0.false)) in
+    record {
+      well_formed = (c.requires, c.ways-ways.ensures);
+      child_run = (
+        children (applies_to_some t left others) t c.requires 0 c.count_at-count.result 0 n,
+        omega arith,
+      );
+      members_pass =
+          members_down t others left 0 (each t c.requires others c.args.subjects left c.members_left-left.ensures c.count_at-count.result c.count_at-count.ensures.0);
+    }
+
+pub rule_match-requires : goal.rule_match-requires
+rule_match-requires c = (held c.args.table.now c.requires 0 c.requires.some, omega arith)
+
+pub returns-in-0-to-3 : goal.returns-in-0-to-3
+returns-in-0-to-3 c =
+    let t = c.args.table.now in
+    let w = c.requires in
+    let others = c.args.others.now in
+    let left = c.members_left-left.result in
+    let is = c.members_left-left.ensures in
+    let end = c.count_at-count.result in
+    let counted = c.count_at-count.ensures.0 in
+    let n = node t w others c.args.subjects left is end counted (omega arith) (omega (arith, c.if-left-eq0.false)) in
+    let r =
+    whole t w others c.args.subjects left is end counted
+    (by_group (applies_to_some t left others) t w n c.kind_at-kind.ensures (omega arith) c.rule_run.ensures.decision_value c.rule_run.ensures.gathered) in
+    record { decision_value = r.0; cards_after = r.1 }
+
+pub returns-in_default : goal.returns-in_default
+returns-in_default c =
+    let t = c.args.table.now in
+    let w = c.requires in
+    let others = c.args.others.now in
+    let left = c.members_left-left.result in
+    let is = c.members_left-left.ensures in
+    let end = c.count_at-count.result in
+    let counted = c.count_at-count.ensures.0 in
+    let n = node t w others c.args.subjects left is end counted (omega arith) (omega (arith, c.if-left-eq0.false)) in
+    let r =
+    whole t w others c.args.subjects left is end counted
+    (by_rule (applies_to_some t left others) t w n c.kind_at-kind.ensures (omega arith) c.rule_match.ensures.decision_value.0
+    c.rule_match.ensures.decision_value.1 c.rule_match.ensures.cards_after) in
+    record { decision_value = r.0; cards_after = r.1 }
