@@ -1,7 +1,7 @@
 #!/usr/bin/env python3
 """Brings the names of definitions and lemmas to snake case, as today's Rattle spells them.
 
-usage: python3 tools/snake_names.py            at the top of the repository, once, right after /opt/rattle/port/port.py
+usage: python3 tools/snake_names.py            at the top of the repository, once, right after the port.py of the toolchain
 
 A name is turned where specs/ or proofs/ declares it (the files of one function's proof aside): `fieldFault` becomes
 `field_fault`, `first-upward` becomes `first_upward`, and a dash stays after the name of a definition, as in
