@@ -1,5 +1,4 @@
 -- Refusal 9 names the first field whose value is over its maximum, and applies exactly where the request is not within the maxima.
--- Assumes nothing.
 use mathlib.Core.Path.{◌≡◌, refl, sym, ap, ◌∙◌}
 use mathlib.Core.Bool.{Bool, true, false, cond}
 use mathlib.Core.Logic.{⊎_elim}

@@ -1,5 +1,4 @@
 -- Refusals 9 and 10 of a request, for every way of ruling: which is first, or that none applies.
--- Assumes nothing.
 use mathlib.Core.Path.{◌≡◌, ap, ◌∙◌}
 use mathlib.Core.Bool.{false}
 use mathlib.Core.List.{List, [], ◌∷◌, ◌++◌}

@@ -1,5 +1,4 @@
 -- A ruling is its decision and its cards.
--- Assumes nothing.
 use mathlib.Core.Path.{◌≡◌, ap₂}
 use mathlib.Core.List.{List}
 use Prim.Native.Nat.{ℕ}

@@ -1,5 +1,4 @@
 -- Laws of refusals in their order: of which is first, and of what a call then answers, whatever the call hands back.
--- Assumes nothing.
 use mathlib.Core.Path.{◌≡◌, refl, sym, ap, ◌∙◌, subst}
 use mathlib.Core.Bool.{Bool, true, false, cond}
 use mathlib.Core.Logic.{◌⊎◌, inl, inr, ⊎_elim}

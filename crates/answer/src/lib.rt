@@ -13,8 +13,7 @@ pub const FIELDS: usize = 3;
 // How many fields there are beside the subject.
 pub const OTHERS: usize = FIELDS - 1;
 
-// A refusal's number and place; or number 0 and place 0, with the decision and the count, and with how many subjects a set has that
-// was ruled on.
+// A refusal, or a success with its decision, count and number of subjects.
 #[repr(C)]
 #[derive(Clone, Copy)]
 pub struct Answer {

@@ -1,5 +1,4 @@
 -- The walk over the nodes for one value of a field: what it has so far, and one law for each way on.
--- Assumes nothing.
 use mathlib.Core.Path.{◌≡◌, sym, ap, ap₂, ◌∙◌}
 use mathlib.Core.Bool.{Bool, true, false, ◌&&◌, ◌||◌, and-false, or-false}
 use mathlib.Core.Logic.{⊎_elim}

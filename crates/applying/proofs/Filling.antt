@@ -1,5 +1,4 @@
 -- The sets of each value and of each field, as the walks over the values and over the fields fill them in.
--- Assumes nothing.
 use mathlib.Core.Path.{◌≡◌, refl, sym, ap, ◌∙◌, subst}
 use mathlib.Core.Bool.{Bool, true, false}
 use mathlib.Core.Logic.{⊎_elim}

@@ -1,5 +1,4 @@
 -- Neighbouring values that have the same set become one run: what holds as the walk over the values goes on.
--- Assumes nothing.
 use mathlib.Core.Path.{◌≡◌, refl, sym, ap, ◌∙◌, subst}
 use mathlib.Core.Bool.{Bool, true, false, cond}
 use mathlib.Core.Logic.{⊎_elim}

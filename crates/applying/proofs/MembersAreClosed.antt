@@ -1,5 +1,4 @@
 -- The sets of nodes that the build walks over are closed: a node that is out takes all nodes under it out.
--- Assumes nothing.
 use mathlib.Core.Path.{◌≡◌, refl, sym, ap, ◌∙◌, subst}
 use mathlib.Core.Bool.{Bool, true, false, ◌&&◌, and-false, true≢false}
 use mathlib.Core.List.{List}

@@ -1,5 +1,4 @@
 -- A node applies to a request exactly where it does in each field alone, and so the groups give what the nodes that are left give.
--- Assumes nothing.
 use mathlib.Core.Path.{◌≡◌, sym, ap, ap₂, ◌∙◌}
 use mathlib.Core.Bool.{Bool, true, ◌&&◌, and_assoc, and-true}
 use mathlib.Core.List.{List, [], ◌∷◌}

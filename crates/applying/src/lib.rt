@@ -1,4 +1,4 @@
-// For each value of a field, the set of nodes that apply there in that field alone.
+// For each value of a field, the set of nodes that apply there, by that field alone.
 #![tactic(auto)]
 
 ghost use Rattle.std.specs.Prelude.{◌≡◌, ℕ, ◌≤◌, ◌<◌, length};

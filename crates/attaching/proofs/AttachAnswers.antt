@@ -1,5 +1,4 @@
 -- What attaching answers and leaves in the lent bytes: by its refusals, and where it succeeds.
--- Assumes nothing.
 use mathlib.Core.Path.{◌≡◌, refl, sym, ap, ap₂, ◌∙◌}
 use mathlib.Core.Bool.{false}
 use mathlib.Core.List.{List, [], ◌∷◌, ◌++◌}

@@ -1,6 +1,5 @@
 -- What attaching writes, where the expansion can be fitted to the base, and what it means: the table is accepted, it is the base with the expansion
 -- fitted to it, and so are its tree and what its groups give.
--- Assumes nothing.
 use mathlib.Core.Path.{◌≡◌, refl, sym}
 use mathlib.Core.Bool.{true, false}
 use mathlib.Core.List.{List, [], ◌∷◌, ◌++◌}

@@ -1,5 +1,4 @@
 -- Laws of refusals 17, 18 and 19 of two accepted tables, and what holds where none of them applies.
--- Assumes nothing.
 use mathlib.Core.Path.{◌≡◌, sym, ap, ap₂, ◌∙◌}
 use mathlib.Core.Bool.{Bool, true, false, not, ◌||◌}
 use mathlib.Core.List.{List}

@@ -1,5 +1,4 @@
 -- A table is accepted that is an accepted base with an accepted expansion fitted to it, where none of refusals 17 to 19 applies.
--- Assumes nothing.
 use mathlib.Core.Path.{◌≡◌, ap, subst, ◌∙◌}
 use mathlib.Core.Logic.{⊎_elim}
 use mathlib.Core.List.{List}

@@ -1,6 +1,5 @@
 -- What the groups of a table give that is a base with an expansion fitted to it: for any test of which nodes apply, for a request of one subject, and
 -- for several subjects that ask together.
--- Assumes nothing.
 use mathlib.Core.Path.{◌≡◌, refl, sym, ap, ap₂, ◌∙◌}
 use mathlib.Core.Bool.{Bool, true, false, ◌&&◌}
 use mathlib.Core.Logic.{⊎_elim}

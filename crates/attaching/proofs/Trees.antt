@@ -1,5 +1,4 @@
 -- The tree of a table that is a base with an expansion fitted to it: parents, children and levels.
--- Assumes nothing.
 use mathlib.Core.Path.{◌≡◌, refl, sym, ap, ap₂, ◌∙◌}
 use mathlib.Core.Bool.{Bool, true, false}
 use mathlib.Core.Logic.{⊎_elim}

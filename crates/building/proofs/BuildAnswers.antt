@@ -1,5 +1,4 @@
 -- What building answers and leaves in the lent diagram: by its refusals, and where it succeeds.
--- Assumes nothing.
 use mathlib.Core.Path.{◌≡◌, refl, ap, ◌∙◌}
 use mathlib.Core.Bool.{false, ◌||◌, or-true}
 use mathlib.Core.Logic.{◌⊎◌, ◌↔◌, ⊎_elim}

@@ -1,6 +1,5 @@
 -- In any slice that starts with the diagram of an accepted table, a request within its fields gets what the groups give; where the table's root is
 -- deny overrides, no request gets indeterminate.
--- Assumes nothing.
 use mathlib.Core.Path.{◌≡◌}
 use mathlib.Core.List.{List, ◌++◌}
 use Prim.Native.Nat.{ℕ, ◌≤◌}

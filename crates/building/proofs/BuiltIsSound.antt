@@ -1,5 +1,4 @@
 -- Any slice that starts with the diagram of an accepted table is sound, where that diagram has at most 32,768 places.
--- Assumes nothing.
 use mathlib.Core.Path.{subst}
 use mathlib.Core.List.{List, ◌++◌}
 use Prim.Native.Nat.{ℕ, ◌≤◌}

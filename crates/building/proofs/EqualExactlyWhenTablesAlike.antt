@@ -1,5 +1,4 @@
 -- The diagrams of two tables are equal, number for number, exactly when the tables have the same maxima and rule alike within them.
--- Assumes nothing.
 use mathlib.Core.Path.{◌≡◌, sym, ◌∙◌}
 use mathlib.Core.Logic.{◌↔◌}
 use mathlib.Core.List.{List}

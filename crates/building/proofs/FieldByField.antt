@@ -1,5 +1,4 @@
 -- The walk of the fields from one on, where some nodes are still possible, as a level of a walk.
--- Assumes nothing.
 use mathlib.Core.Path.{◌≡◌, sym, ap, ◌∙◌, subst}
 use mathlib.Core.Bool.{Bool, ◌&&◌}
 use mathlib.Core.List.{List, [], ◌∷◌}

@@ -1,5 +1,4 @@
 -- What is remembered of walks by a set of nodes, and the ways through a walk that is done once.
--- Assumes nothing.
 use mathlib.Core.Path.{◌≡◌, refl, sym, ◌∙◌, subst}
 use mathlib.Core.Bool.{Bool, true, false}
 use mathlib.Core.List.{List, [], ◌∷◌}

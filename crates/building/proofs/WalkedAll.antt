@@ -1,5 +1,4 @@
 -- From the walk of all fields in the lent diagram to what building answers and leaves there: one law for each way through the code.
--- Assumes nothing.
 use mathlib.Core.Path.{◌≡◌, refl, sym, ap, ◌∙◌, subst}
 use mathlib.Core.Bool.{Bool, true, false}
 use mathlib.Core.Logic.{inl, inr, ⊎_elim}

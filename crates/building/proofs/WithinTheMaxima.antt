@@ -1,5 +1,4 @@
 -- A request is within a table's fields exactly where it is within its list of maxima.
--- Assumes nothing.
 use mathlib.Core.Path.{◌≡◌, sym, ◌∙◌}
 use mathlib.Core.Logic.{◌↔◌}
 use mathlib.Core.List.{List}

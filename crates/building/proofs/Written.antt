@@ -1,5 +1,4 @@
 -- The cards of a ruling in the list that they were stored in, and the header over the zeros that it is written over.
--- Assumes nothing.
 use mathlib.Core.Path.{◌≡◌, sym, ap, ◌∙◌, subst}
 use mathlib.Core.Bool.{Bool}
 use mathlib.Core.List.{List, ◌∷◌, ◌++◌, append_assoc}

@@ -29,7 +29,7 @@ pub(crate) fn is_known(near: Known, nodes: Set) -> bool
     }
 }
 
-// The slot of a set and a field. Any would do: a slot holds what it is for.
+// The slot of a set and a field. Any hash is correct: slots store their key.
 pub(crate) fn slot_of(nodes: Set, field: usize) -> usize
     requires { field ≤ fields }
     ensures { result < 701 }

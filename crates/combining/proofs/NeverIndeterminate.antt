@@ -1,5 +1,4 @@
 -- Deny overrides never gives indeterminate, whatever its children give, and neither is its running decision, however many of them it has taken in.
--- Assumes nothing.
 use mathlib.Core.Path.{◌≡◌, sym, ap, ◌∙◌}
 use mathlib.Core.Bool.{Bool, true, false, cond}
 use mathlib.Core.List.{List, [], ◌∷◌}

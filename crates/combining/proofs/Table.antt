@@ -1,6 +1,5 @@
 -- The combining table against the four ways: one computed test over all kinds of groups, running decisions and children, which covers exactly the
 -- rows of the table, gives the rule at each entry.
--- Assumes nothing.
 use mathlib.Core.Path.{◌≡◌, refl, sym, subst}
 use mathlib.Core.Bool.{Bool, true, false, cond, not, ◌&&◌}
 use mathlib.Core.List.{List}

@@ -1,5 +1,4 @@
 -- The cards of the rules of a set, stored one after another: the nodes between those of the set have none.
--- Assumes nothing.
 use mathlib.Core.Path.{◌≡◌, sym, ap, ◌∙◌}
 use mathlib.Core.Bool.{Bool, true, false}
 use mathlib.Core.Logic.{⊎_elim}

@@ -1,6 +1,5 @@
 -- A group's running decision, which takes in the children that are in the set, one after another: the children between them are out,
 -- and change nothing.
--- Assumes nothing.
 use mathlib.Core.Path.{◌≡◌, refl, sym, ap, ◌∙◌}
 use mathlib.Core.Bool.{Bool, true, false, true≢false}
 use mathlib.Core.Logic.{⊎_elim}

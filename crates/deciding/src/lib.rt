@@ -1,4 +1,4 @@
-// Ruling by the set of nodes that apply, from one member to the next.
+// Evaluates a table, given the set of nodes that apply.
 #![tactic(auto)]
 
 ghost use Rattle.std.specs.Prelude.{◌≡◌, true, ◌<◌, length};

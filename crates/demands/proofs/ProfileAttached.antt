@@ -1,6 +1,5 @@
 -- The convention profile of a base with an expansion fitted to it, where both are tables of the profile: the table of both is one again where the root
 -- of the base holds no rule, and is refused with 14 at the root where it does.
--- Assumes nothing.
 use mathlib.Core.Path.{◌≡◌, refl, sym, ap, ap₂, ◌∙◌}
 use mathlib.Core.Bool.{Bool, true, false, beq, not, cond, ◌||◌}
 use mathlib.Core.Logic.{⊎_elim}

@@ -1,5 +1,4 @@
 -- What a test tells that decides a claim, and that what decides soundness is its decision.
--- Assumes nothing.
 use mathlib.Core.Path.{◌≡◌, refl, sym, subst}
 use mathlib.Core.Bool.{Bool, true, false, not}
 use mathlib.Core.List.{List}

@@ -1,5 +1,4 @@
 -- Laws of the descent from the root of a sound diagram, one for each way through the code.
--- Assumes nothing.
 use mathlib.Core.Path.{◌≡◌, refl, sym, ap, ◌∙◌, subst}
 use mathlib.Core.Bool.{cond}
 use mathlib.Core.Logic.{⊎_elim}

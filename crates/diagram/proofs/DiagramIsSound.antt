@@ -1,5 +1,4 @@
 -- Any slice that starts with a walked diagram is sound, where the diagram has at most 32,768 places and a terminal can hold each ruling walked.
--- Assumes nothing.
 use mathlib.Core.Path.{◌≡◌, sym, ap, ◌∙◌, subst}
 use mathlib.Core.List.{List, [], ◌∷◌, ◌++◌}
 use Prim.Native.Nat.{ℕ, ◌+◌, ◌-◌, ◌≤◌, ◌<◌}

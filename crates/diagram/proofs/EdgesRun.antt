@@ -1,5 +1,4 @@
 -- The open edges of a level take the values walked, in runs: each value to the child that it was given.
--- Assumes nothing.
 use mathlib.Core.Path.{◌≡◌, refl, subst}
 use mathlib.Core.Bool.{Bool, true, false, cond}
 use mathlib.Core.Logic.{⊎_elim}

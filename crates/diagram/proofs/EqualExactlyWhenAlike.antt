@@ -1,5 +1,4 @@
 -- Diagrams over as many fields are equal, number for number, exactly when the maxima are the same and the rulings within them are.
--- Assumes nothing.
 use mathlib.Core.Path.{◌≡◌, sym, ap, ◌∙◌, subst}
 use mathlib.Core.Logic.{◌↔◌}
 use mathlib.Core.List.{List, [], ◌++◌}

@@ -1,6 +1,5 @@
 -- In a sound diagram every request within the maxima reaches a terminal. So its ruling is one that a terminal can hold: one of the four
 -- decisions, at most 127 cards, none of them 0.
--- Assumes nothing.
 use mathlib.Core.Path.{◌≡◌, refl, sym, ◌∙◌, subst}
 use mathlib.Core.List.{List}
 use Prim.Native.Nat.{ℕ, zero, suc, ◌+◌, ◌≤◌}

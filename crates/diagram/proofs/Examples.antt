@@ -1,5 +1,4 @@
 -- T's diagram and answers of document 01 computed from the definitions: requests looked up in it, unsound slices.
--- Assumes nothing.
 use mathlib.Core.Path.{◌≡◌, refl}
 use mathlib.Core.Bool.{true}
 use mathlib.Core.List.{List, [], ◌∷◌}

@@ -1,5 +1,4 @@
 -- Laws of the edge of a value: the first of a node's edges whose last value is not below it.
--- Assumes nothing.
 use mathlib.Core.Path.{◌≡◌}
 use mathlib.Core.Logic.{⊎_elim}
 use mathlib.Core.List.{List}

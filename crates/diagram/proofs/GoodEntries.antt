@@ -1,5 +1,4 @@
 -- Each entry that a walk enters is a terminal of a ruling walked, or a node whose edges lead to entries before it, of the next level.
--- Assumes nothing.
 use mathlib.Core.Path.{◌≡◌, refl, sym, ap, ◌∙◌, subst}
 use mathlib.Core.Bool.{cond}
 use mathlib.Core.Logic.{◌⊎◌, inl, inr, ⊎_elim}

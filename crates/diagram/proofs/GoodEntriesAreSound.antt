@@ -1,5 +1,4 @@
 -- A slice is sound that has a header, then good entries up to the end of the used places, and the root at one of level 1.
--- Assumes nothing.
 use mathlib.Core.Path.{◌≡◌, refl, sym, ap, ◌∙◌, subst}
 use mathlib.Core.Logic.{inl, inr, ⊎_elim}
 use mathlib.Core.List.{List, [], ◌++◌}

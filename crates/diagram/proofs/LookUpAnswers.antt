@@ -1,5 +1,4 @@
 -- Refusal 12, and what a look-up in a sound diagram answers: one law for each.
--- Assumes nothing.
 use mathlib.Core.Path.{◌≡◌, sym, ap, ◌∙◌}
 use mathlib.Core.Bool.{true, false, not}
 use mathlib.Core.List.{List, [], ◌∷◌}

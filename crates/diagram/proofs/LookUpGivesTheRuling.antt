@@ -1,5 +1,4 @@
 -- Looking up in any slice that starts with the diagram of the rulings f gives each request within the maxima the ruling of f.
--- Assumes nothing.
 use mathlib.Core.Path.{◌≡◌, sym, ap, ◌∙◌, subst}
 use mathlib.Core.List.{List, [], ◌∷◌, ◌++◌}
 use Prim.Native.Nat.{ℕ, suc, ◌-◌, ◌≤◌, ◌<◌}

@@ -1,5 +1,4 @@
 -- At a sound node a value within the maximum takes a real edge, whose child is the start of an earlier entry of the next level.
--- Assumes nothing.
 use mathlib.Core.List.{List}
 use Prim.Native.Nat.{ℕ, ◌-◌, ◌≤◌, ◌<◌}
 use native.Mathlib.Omega.{arith}

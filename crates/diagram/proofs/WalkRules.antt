@@ -1,5 +1,4 @@
 -- From the place that a walk gives down, its entries rule as the rulings walked.
--- Assumes nothing.
 use mathlib.Core.List.{List, [], ◌∷◌}
 use Prim.Native.Nat.{ℕ, suc, ◌-◌}
 use lib.ListN.{length}

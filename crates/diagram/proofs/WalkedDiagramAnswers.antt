@@ -1,6 +1,5 @@
 -- In any slice that starts with a walked diagram, a request within the maxima gets the answer and the list of the ruling walked; any request gets the
 -- decision of a ruling walked, or 0.
--- Assumes nothing.
 use mathlib.Core.Path.{◌≡◌, sym, ap, ◌∙◌, subst}
 use mathlib.Core.List.{List, [], ◌∷◌, ◌++◌}
 use Prim.Native.Nat.{ℕ, ◌≤◌, ◌<◌}

@@ -1,6 +1,5 @@
 -- Where the entries that a walk left still stand, walking again adds none and gives the same place; so does walking what rules alike.
 -- Values that follow and do so share one edge.
--- Assumes nothing.
 use mathlib.Core.Path.{◌≡◌, refl, ap, ◌∙◌, subst}
 use mathlib.Core.Bool.{Bool, true, false, cond}
 use mathlib.Core.List.{List, [], ◌∷◌}

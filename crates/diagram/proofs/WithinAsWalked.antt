@@ -1,5 +1,4 @@
 -- A request is within the maxima in the header of a walked diagram exactly where it is within the maxima walked.
--- Assumes nothing.
 use mathlib.Core.Path.{◌≡◌, refl}
 use mathlib.Core.Logic.{◌↔◌}
 use mathlib.Core.List.{List, [], ◌∷◌, ◌++◌}

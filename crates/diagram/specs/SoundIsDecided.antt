@@ -1,5 +1,4 @@
 -- Soundness is decided, clause by clause. Each of these says in its type what it decides; a reader needs no more of it.
--- Assumes nothing.
 use Rattle.std.specs.Prelude.{◌≡◌, refl, List, ℕ, zero, suc, ◌+◌, ◌-◌, ◌≤◌, ◌<◌, eqb, ltb, length}
 use Rattle.std.proofs.Common.{subst, ⊎_elim, inl, inr, arith, ltb-true, ltb-false, eqb-true}
 use Rattle.std.proofs.lemmas.Bool.{eqb-false}

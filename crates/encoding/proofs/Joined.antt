@@ -1,5 +1,4 @@
 -- Bytes that start with a table, and bytes to which a part of another table of the same version was joined: the header and the nodes that they hold.
--- Assumes nothing.
 use mathlib.Core.Path.{◌≡◌, ap, ◌∙◌}
 use mathlib.Core.List.{List, ◌++◌}
 use Prim.Native.Nat.{ℕ, ◌+◌, ◌-◌, ◌≤◌}

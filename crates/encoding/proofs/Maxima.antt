@@ -1,5 +1,4 @@
 -- The maxima of a table: as many as there are fields, each that of its field, and at most 255; and written one after another.
--- Assumes nothing.
 use mathlib.Core.Path.{◌≡◌, refl, sym, ap, ◌∙◌}
 use mathlib.Core.List.{List}
 use Prim.Native.Nat.{ℕ, zero, suc, ◌+◌, ◌≤◌, ◌<◌}

@@ -1,5 +1,4 @@
 -- Laws of a table in which one number of two bytes is another: that number is read, and all else of the header and of the nodes is as it was.
--- Assumes nothing.
 use mathlib.Core.Path.{◌≡◌, ap, ap₂, subst, ◌∙◌}
 use mathlib.Core.Logic.{⊎_elim}
 use mathlib.Core.List.{List, ◌++◌}

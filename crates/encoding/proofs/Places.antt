@@ -1,6 +1,5 @@
 -- Where the header and the records of a table lie, and that tables of one version have them in the same places: other proofs cite this and know no
 -- offset.
--- Assumes nothing.
 use mathlib.Core.Path.{◌≡◌, refl, ap₂}
 use mathlib.Core.List.{List}
 use Prim.Native.Nat.{ℕ, ◌+◌, ◌*◌, ◌^◌, ◌≤◌, ◌<◌}

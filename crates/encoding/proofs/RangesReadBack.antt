@@ -1,5 +1,4 @@
 -- Bytes that are gathered into a word: it has room for eight, and each can be read back from it; so each end of a node's ranges can.
--- Assumes nothing.
 use mathlib.Core.Path.{◌≡◌, refl, sym, ap, ap₂, ◌∙◌, subst}
 use mathlib.Core.Logic.{⊎_elim}
 use mathlib.Core.List.{List}

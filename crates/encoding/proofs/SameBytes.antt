@@ -1,5 +1,4 @@
 -- What two tables of one version have in common where they have bytes in common: the header, and nodes.
--- Assumes nothing.
 use mathlib.Core.Path.{◌≡◌, ap, ap₂, ◌∙◌}
 use mathlib.Core.List.{List}
 use Prim.Native.Nat.{ℕ, ◌+◌, ◌*◌, ◌≤◌, ◌<◌}

@@ -1,5 +1,4 @@
 -- An entry that is entered stands already, or follows the last one: where it is to stand, whether there is room, and what is left once it is written.
--- Assumes nothing.
 use mathlib.Core.Path.{◌≡◌, refl, sym, ap, ◌∙◌, subst}
 use mathlib.Core.Bool.{Bool, true, false, false≢true}
 use mathlib.Core.Logic.{◌⊎◌, inl, inr, ⊎_elim}

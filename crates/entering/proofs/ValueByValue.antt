@@ -1,5 +1,4 @@
 -- The walk of a level's values in the lent diagram: what holds before a value, from the first to the last.
--- Assumes nothing.
 use mathlib.Core.Path.{◌≡◌, refl, sym, ap, ◌∙◌, subst}
 use mathlib.Core.Bool.{Bool, true, false}
 use mathlib.Core.Logic.{⊎_elim}

@@ -1,5 +1,4 @@
 -- What is remembered of earlier walks stays right as entries are added, and a walk that is remembered adds nothing.
--- Assumes nothing.
 use mathlib.Core.Path.{◌≡◌, refl, sym, ap, ◌∙◌, subst}
 use mathlib.Core.Bool.{Bool, true, false}
 use mathlib.Core.Logic.{⊎_elim}

@@ -1,5 +1,4 @@
 -- At a sound node each edge is the one of its first value, which is within the maximum.
--- Assumes nothing.
 use mathlib.Core.Path.{◌≡◌, ap}
 use mathlib.Core.List.{List}
 use Prim.Native.Nat.{ℕ, zero, suc, ◌≤◌, ◌<◌}

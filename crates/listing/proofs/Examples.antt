@@ -1,5 +1,4 @@
 -- Texts of document 01 computed from the definitions: the listing of T's diagram, and a refusal.
--- Assumes nothing.
 use mathlib.Core.Path.{◌≡◌, refl}
 use mathlib.Core.List.{[], ◌∷◌}
 use Rattle.diagram.specs.LookUp.{edge}

@@ -1,5 +1,4 @@
 -- Laws of a text that is filled with lines, one for each way through the code.
--- Assumes nothing.
 use mathlib.Core.Path.{◌≡◌, refl, sym, ◌∙◌, subst}
 use mathlib.Core.Bool.{true}
 use mathlib.Core.List.{List, [], ◌++◌}

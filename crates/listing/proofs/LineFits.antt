@@ -1,5 +1,4 @@
 -- The line of every request within the maxima of a sound diagram fits into the longest line.
--- Assumes nothing.
 use mathlib.Core.Path.{◌≡◌, refl, subst}
 use mathlib.Core.Logic.{⊎_elim}
 use mathlib.Core.List.{List, [], ◌∷◌, ◌++◌}

@@ -1,5 +1,4 @@
 -- The word and the cards of the terminal that a request reaches are those of its ruling.
--- Assumes nothing.
 use mathlib.Core.Path.{◌≡◌, ap}
 use mathlib.Core.List.{List}
 use Prim.Native.Nat.{ℕ, ◌+◌}

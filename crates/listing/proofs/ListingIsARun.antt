@@ -1,6 +1,5 @@
 -- The lines of every path from the root are a run from the first request, where all values are 0, up to where no request follows: each path
 -- once, in rising order.
--- Assumes nothing.
 use mathlib.Core.Path.{◌≡◌, refl, sym, ap, ◌∙◌, subst}
 use mathlib.Core.Bool.{true}
 use mathlib.Core.List.{List, [], ◌∷◌, ◌++◌, append_assoc, append-nil}

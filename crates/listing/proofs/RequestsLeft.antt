@@ -1,5 +1,4 @@
 -- Fewer requests are left after a later one: a loop from request to request ends.
--- Assumes nothing.
 use mathlib.Core.Path.{◌≡◌, sym, ap, ◌∙◌}
 use mathlib.Core.Logic.{⊎_elim}
 use mathlib.Core.List.{List, [], ◌∷◌}

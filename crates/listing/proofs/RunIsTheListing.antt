@@ -1,6 +1,5 @@
 -- Whoever follows the next request from the first one on, where all values are 0, until none follows, has written the whole listing. Pages
 -- are such runs, which join.
--- Assumes nothing.
 use mathlib.Core.Path.{◌≡◌, refl, sym, ap, ◌∙◌, subst}
 use mathlib.Core.Bool.{true, false, false≢true}
 use mathlib.Core.Logic.{⊎_elim}

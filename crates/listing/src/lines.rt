@@ -13,7 +13,7 @@ use crate::text::{end_line, put, put_all, put_decimal, put_decision, put_items, 
 use answer::FIELDS;
 use lookup::edge_of;
 
-// The first line: the maxima.
+// Writes the first line, the maxima.
 pub fn fields_line(diagram: &[u16], text: &mut [u8], at: usize) -> usize
     requires fields_in_bounds { header fields ≤ length diagram.now }
     requires most_line_in_bounds { at + most_line ≤ length text.old }
@@ -25,7 +25,7 @@ pub fn fields_line(diagram: &[u16], text: &mut [u8], at: usize) -> usize
     end_line(text, end)
 }
 
-// The only line of a refusal.
+// Writes the only line of a refusal.
 pub fn refused_line(number: u8, place: usize, text: &mut [u8], at: usize) -> usize
     requires { at + most_line ≤ length text.old }
     ensures written { Written text.old text.new at result (refused_line number place) }
@@ -57,7 +57,7 @@ struct Reached {
     end: usize,
 }
 
-// The ranges of the path that the values take, each with a space after it.
+// Writes the ranges of the path that the values take, each with a space after it.
 fn put_path(diagram: &[u16], values: [u16; FIELDS], text: &mut [u8], at: usize) -> Reached
     requires sound { Sound fields diagram.now }
     requires within { Within (maximum diagram.now) values }
@@ -82,7 +82,7 @@ fn put_path(diagram: &[u16], values: [u16; FIELDS], text: &mut [u8], at: usize) 
     }
 }
 
-// The line of the path that the values take in a sound diagram.
+// Writes the line of the path that the values take in a sound diagram.
 pub fn line(diagram: &[u16], values: [u16; FIELDS], text: &mut [u8], at: usize) -> usize
     requires sound { Sound fields diagram.now }
     requires within { Within (maximum diagram.now) values }

@@ -19,7 +19,7 @@ pub struct Page {
     pub after: After,
 }
 
-// The lines from a request on, in rising order, from a place of the text on and as long as there is room for a longest line.
+// Writes the lines from a request on, in rising order, from a place of the text on and as long as there is room for a longest line.
 pub fn fill(diagram: &[u16], values: [u16; FIELDS], text: &mut [u8], at: usize) -> Page
     requires sound { Sound fields diagram.now }
     requires within { Within (maximum diagram.now) values }

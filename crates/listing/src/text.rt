@@ -5,7 +5,7 @@ ghost use Rattle.listing.specs.Written.{RoomFor, Written};
 
 use combining::Decision;
 
-// One byte.
+// Writes one byte.
 pub(crate) fn put(byte: u8, text: &mut [u8], at: usize) -> usize
     requires { RoomFor text.old at (byte ∷ []) }
     ensures { Written text.old text.new at result (byte ∷ []) }
@@ -14,7 +14,7 @@ pub(crate) fn put(byte: u8, text: &mut [u8], at: usize) -> usize
     at + 1
 }
 
-// The end of a line.
+// Writes the end of a line.
 pub(crate) fn end_line(text: &mut [u8], at: usize) -> usize
     requires { RoomFor text.old at (newline ∷ []) }
     ensures { Written text.old text.new at result (newline ∷ []) }
@@ -22,7 +22,7 @@ pub(crate) fn end_line(text: &mut [u8], at: usize) -> usize
     put(b'\n', text, at)
 }
 
-// Some bytes.
+// Writes some bytes.
 pub(crate) fn put_all(bytes: &[u8], text: &mut [u8], at: usize) -> usize
     requires { RoomFor text.old at bytes.now }
     ensures { Written text.old text.new at result bytes.now }
@@ -36,7 +36,7 @@ pub(crate) fn put_all(bytes: &[u8], text: &mut [u8], at: usize) -> usize
     end
 }
 
-// A number's decimal digits: those of a tenth of it, then the last.
+// Writes a number's decimal digits: those of a tenth of it, then the last.
 pub(crate) fn put_decimal(number: usize, text: &mut [u8], at: usize) -> usize
     requires { RoomFor text.old at (decimal number) }
     ensures { Written text.old text.new at result (decimal number) }
@@ -48,7 +48,7 @@ pub(crate) fn put_decimal(number: usize, text: &mut [u8], at: usize) -> usize
     put(b'0' + (number % 10) as u8, text, end)
 }
 
-// A decision's word.
+// Writes a decision's word.
 pub(crate) fn put_decision(decision: u8, text: &mut [u8], at: usize) -> usize
     requires decision_bound { decision ≤ 3 }
     requires room_for { RoomFor text.old at (decision_word decision) }
@@ -62,7 +62,7 @@ pub(crate) fn put_decision(decision: u8, text: &mut [u8], at: usize) -> usize
     }
 }
 
-// A range.
+// Writes a range, its low and its high.
 pub(crate) fn put_range(low: usize, high: usize, text: &mut [u8], at: usize) -> usize
     requires { RoomFor text.old at (range low high) }
     ensures { Written text.old text.new at result (range low high) }
@@ -72,7 +72,7 @@ pub(crate) fn put_range(low: usize, high: usize, text: &mut [u8], at: usize) -> 
     put_decimal(high, text, end)
 }
 
-// Numbers, each after a space.
+// Writes numbers, each after a space.
 pub(crate) fn put_items(numbers: &[u16], text: &mut [u8], at: usize) -> usize
     requires { RoomFor text.old at (items numbers.now) }
     ensures { Written text.old text.new at result (items numbers.now) }

@@ -1,5 +1,4 @@
 -- Laws of the search for an edge by halving, at a sound node, one for each way through the code.
--- Assumes nothing.
 use mathlib.Core.Path.{◌≡◌, sym, ap, subst}
 use mathlib.Core.Logic.{⊎_elim}
 use mathlib.Core.List.{List}

@@ -1,5 +1,4 @@
 -- No ruling of an accepted table has more than 127 cards: a table of more than one node has a group as its root.
--- Assumes nothing.
 use mathlib.Core.Path.{◌≡◌, ap, ◌∙◌}
 use mathlib.Core.Bool.{Bool, false}
 use mathlib.Core.Logic.{⊎_elim}

@@ -1,5 +1,4 @@
 -- Laws of the cards of matching rules among nodes that follow one another, for any test of which nodes apply.
--- Assumes nothing.
 use mathlib.Core.Path.{◌≡◌, refl, ap, ◌∙◌}
 use mathlib.Core.Bool.{Bool, true, false, cond, ◌&&◌}
 use mathlib.Core.List.{List, [], ◌∷◌, ◌++◌}

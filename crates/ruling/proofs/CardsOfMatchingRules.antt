@@ -1,6 +1,5 @@
 -- The cards are those of all matching rules, in table order, once for each rule, and nothing else: a rule that matches has its
 -- card at the place that counts the rules matching before it, and every place is that of such a rule.
--- Assumes nothing.
 use mathlib.Core.Path.{◌≡◌, refl, sym, ap, ◌∙◌}
 use mathlib.Core.Bool.{Bool, true, false, cond}
 use mathlib.Core.Logic.{⊎_elim}

@@ -1,5 +1,4 @@
 -- The children of a group, ruled one after another, for any test of which nodes apply: those that do not are stepped over, and change nothing.
--- Assumes nothing.
 use mathlib.Core.Path.{◌≡◌, sym, ◌∙◌}
 use mathlib.Core.Bool.{Bool, true, false}
 use mathlib.Core.List.{List}

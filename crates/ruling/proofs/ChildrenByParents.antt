@@ -1,5 +1,4 @@
 -- In an accepted table, the nodes under a node are its children, those whose parent it is, each with the nodes under it.
--- Assumes nothing.
 use mathlib.Core.Path.{◌≡◌, refl, sym, ap, ap₂, subst, ◌∙◌}
 use mathlib.Core.Bool.{Bool, true, false, cond}
 use mathlib.Core.Logic.{⊎_elim}

@@ -1,6 +1,5 @@
 -- The decision of a node that is reached, under targets that hold, is the one that documents 01 and 02 word: a group goes by its own target alone, and
 -- only rules by the targets above them too.
--- Assumes nothing.
 use mathlib.Core.Path.{◌≡◌, refl, sym}
 use mathlib.Core.Bool.{Bool, true, false, cond}
 use mathlib.Core.List.{List}

@@ -1,5 +1,4 @@
 -- In an accepted table, a node's decision is what it gives of the decisions of the nodes whose parent it is, for any test of which nodes apply.
--- Assumes nothing.
 use mathlib.Core.Path.{◌≡◌, refl, ap, ◌∙◌}
 use mathlib.Core.Bool.{Bool}
 use mathlib.Core.List.{List, [], ◌∷◌, map}

@@ -1,5 +1,4 @@
 -- The decision of a ruling is one of the four: for every table, set of subjects, values and list, and for any test of which nodes apply.
--- Assumes nothing.
 use mathlib.Core.Bool.{Bool}
 use mathlib.Core.List.{List}
 use Prim.Native.Nat.{ℕ, ◌<◌}

@@ -1,5 +1,4 @@
 -- Laws of a node's decision, and of a running decision over a run of nodes, for any test of which nodes apply.
--- Assumes nothing.
 use mathlib.Core.Path.{◌≡◌, refl, sym, ap, ◌∙◌}
 use mathlib.Core.Bool.{Bool, true, false, cond}
 use mathlib.Core.List.{List, ◌∷◌}

@@ -1,5 +1,4 @@
 -- Laws of the nodes from one number up to another: no nodes, and one node more. The bound on the steps is gone from them.
--- Assumes nothing.
 use mathlib.Core.Path.{◌≡◌, refl, sym, ap, ◌∙◌}
 use mathlib.Core.Bool.{Bool, true, false}
 use mathlib.Core.Logic.{⊎_elim}

@@ -1,5 +1,4 @@
 -- What a ruling answers that first sees to a table, by some refusals, and then asks an accepted one: one law for each part.
--- Assumes nothing.
 use mathlib.Core.Path.{◌≡◌, sym, ap, ◌∙◌}
 use mathlib.Core.Bool.{false, cond}
 use mathlib.Core.Logic.{⊎_elim}

@@ -1,5 +1,4 @@
 -- A law of lists of what those numbers give that pass a test, one number after another: of the cards of matching rules, and of a node's children.
--- Assumes nothing.
 use mathlib.Core.Path.{◌≡◌, refl, sym, ap, ◌∙◌}
 use mathlib.Core.Bool.{Bool, true, false, cond}
 use mathlib.Core.List.{List, [], ◌∷◌, ◌++◌}

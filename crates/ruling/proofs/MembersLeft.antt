@@ -1,5 +1,4 @@
 -- Members of a set on their way down: those for which every target above a node holds, and those that are left of them at the node.
--- Assumes nothing.
 use mathlib.Core.Path.{◌≡◌, refl, sym, ap, ◌∙◌}
 use mathlib.Core.Bool.{Bool, true, false, ◌&&◌}
 use mathlib.Core.List.{List, ◌∷◌}

@@ -1,6 +1,5 @@
 -- A deny-overrides group never gives indeterminate, at any node, and neither is its running decision, before or after any child: for any test of which
 -- nodes apply, and so for one subject and for sets alike. So a table whose root is such a group never answers indeterminate.
--- Assumes nothing.
 use mathlib.Core.Path.{◌≡◌, refl, sym, ap, ◌∙◌}
 use mathlib.Core.Bool.{Bool, true, false}
 use mathlib.Core.List.{List}

@@ -1,5 +1,4 @@
 -- No card of an accepted table's ruling is 0.
--- Assumes nothing.
 use mathlib.Core.Path.{◌≡◌, ap}
 use mathlib.Core.Bool.{Bool}
 use mathlib.Core.List.{List}

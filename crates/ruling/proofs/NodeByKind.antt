@@ -1,5 +1,4 @@
 -- What a node that applies gives and gathers, by its kind, for any test of which nodes apply: one law for each way through the code.
--- Assumes nothing.
 use mathlib.Core.Path.{◌≡◌}
 use mathlib.Core.Bool.{Bool}
 use mathlib.Core.List.{List}

@@ -1,5 +1,4 @@
 -- Nodes of two tables that are alike, whatever their numbers, give the same decisions and the same cards.
--- Assumes nothing.
 use mathlib.Core.Path.{◌≡◌, refl, sym, ap, ap₂, ◌∙◌}
 use mathlib.Core.Bool.{Bool, true, false, cond, ◌&&◌}
 use mathlib.Core.Logic.{⊎_elim}

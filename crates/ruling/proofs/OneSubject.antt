@@ -1,5 +1,4 @@
 -- A set of one subject, the word with that place alone set: it has that member and no other, and is ruled as that subject by itself.
--- Assumes nothing.
 use mathlib.Core.Path.{◌≡◌, refl, sym, ap, ◌∙◌, subst}
 use mathlib.Core.Bool.{Bool, true, false, cond, not, ◌||◌}
 use mathlib.Core.Logic.{◌↔◌, ⊎_elim}

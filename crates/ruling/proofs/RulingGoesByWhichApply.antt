@@ -1,5 +1,4 @@
 -- The ruling of an accepted table depends only on which of its nodes apply.
--- Assumes nothing.
 use mathlib.Core.Path.{◌≡◌, refl, sym, ap, ◌∙◌}
 use mathlib.Core.Bool.{Bool}
 use mathlib.Core.List.{List}

@@ -1,5 +1,4 @@
 -- What ruling a node or a run of nodes starts from and leaves, one law for each way through the code, for any test of which nodes apply.
--- Assumes nothing.
 use mathlib.Core.Path.{◌≡◌, sym, ap, ◌∙◌}
 use mathlib.Core.Bool.{Bool, true, false}
 use mathlib.Core.List.{List, [], ◌∷◌, ◌++◌}

@@ -1,6 +1,5 @@
 -- Which sets of subjects get a ruling: none of 13, 9 and 10 applies exactly where the set has a member, what each member asks by itself is
 -- within the maxima, and the list is long enough.
--- Assumes nothing.
 use mathlib.Core.Path.{◌≡◌, refl, ap₂}
 use mathlib.Core.Bool.{Bool, true, false, not, ◌||◌}
 use mathlib.Core.Logic.{◌↔◌}

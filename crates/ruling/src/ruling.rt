@@ -43,7 +43,7 @@ pub fn rule_accepted(
     Answer::ruled(root.decision, root.count, 0)
 }
 
-// The answer with how many subjects they are. It is made anew: copied whole, it would have to wait until all its parts are in memory.
+// The answer with the number of subjects. It is made part by part, since a copy of the whole would wait until all parts are in memory.
 pub fn for_subjects(answer: Answer, subjects: u64) -> Answer
     ensures { result ≡ for_subjects answer (size subjects) }
 {

@@ -8,7 +8,7 @@ ghost use Rattle.sets.specs.Sets.{most, bit, has, Has, same, Next};
 // How many places a word has.
 pub const WORD: usize = 64;
 
-// How many numbers a set is over.
+// Numbers in a set are below this.
 pub const MOST: usize = 2 * WORD;
 
 // Whether place i of a word is set.
@@ -42,7 +42,7 @@ pub fn least_at(word: u64) -> usize
     u64::trailing_zeros(word) as usize
 }
 
-// The word with all its places but the least.
+// The word with its least set place cleared.
 pub fn without_least(word: u64) -> u64
     requires { 0 < word }
     ensures by_index { (i : ℕ) → Next 64 (bit word) 0 i → (j : ℕ) → bit result j ≡ bit word j && not (eqb i j) }
@@ -68,14 +68,14 @@ pub struct Set {
 }
 
 impl Set {
-    // No number.
+    // The empty set.
     pub fn empty() -> Self
         ensures { Has result (λ i. false) }
     {
         Self { low: 0, high: 0 }
     }
 
-    // All numbers below 128.
+    // The set of all numbers below 128.
     pub fn full() -> Self
         ensures { Has result (λ i. ltb i most) }
     {
@@ -97,7 +97,7 @@ impl Set {
         }
     }
 
-    // The set, and i.
+    // The set with i added.
     pub fn with(self, i: usize) -> Self
         requires { i < most }
         ensures { Has result (λ j. has self j || eqb i j) }
@@ -115,7 +115,7 @@ impl Set {
         }
     }
 
-    // The set, but not i.
+    // The set with i removed.
     pub fn without(self, i: usize) -> Self
         requires { i < most }
         ensures { Has result (λ j. has self j && not (eqb i j)) }
@@ -135,7 +135,7 @@ impl Set {
         }
     }
 
-    // The numbers of both sets.
+    // The numbers that both sets have.
     pub fn meet(self, other: Set) -> Self
         ensures { Has result (λ i. has self i && has other i) }
     {

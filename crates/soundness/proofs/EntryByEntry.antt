@@ -1,5 +1,4 @@
 -- Laws of a diagram whose entries are passed one after another and marked where they start, one for each way through the code.
--- Assumes nothing.
 use mathlib.Core.Path.{◌≡◌, refl, sym, ap, ◌∙◌, subst}
 use mathlib.Core.Bool.{Bool, true, false}
 use mathlib.Core.Logic.{inl, inr, ⊎_elim}

@@ -1,5 +1,4 @@
 -- Laws of maxima and of terminals that are checked number by number, one for each way through the code.
--- Assumes nothing.
 use mathlib.Core.Path.{◌≡◌, sym, ◌∙◌}
 use mathlib.Core.List.{List}
 use Prim.Native.Nat.{ℕ, ◌+◌, ◌≤◌, ◌<◌}

@@ -1,5 +1,4 @@
 -- Refusals 1 to 8 and then 14 to 16: what a table of the profile passes, and what the profile's answer of an accepted table tells.
--- Assumes nothing.
 use mathlib.Core.Path.{◌≡◌, refl, sym, ap, ◌∙◌}
 use mathlib.Core.Bool.{false}
 use mathlib.Core.List.{List, [], ◌∷◌, ◌++◌}

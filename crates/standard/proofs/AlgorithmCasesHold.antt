@@ -1,5 +1,4 @@
 -- The cases of appendix C's algorithms hold: each is computed.
--- Assumes nothing.
 use mathlib.Core.Path.{refl, ap}
 use Rattle.ruling.specs.Meaning.{effect}
 use Rattle.standard.specs.AppendixC.{rule_combining, policy_combining}

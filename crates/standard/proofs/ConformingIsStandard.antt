@@ -1,5 +1,4 @@
 -- The profile accepts an accepted table exactly where it conforms: each node is a rule or a group, as is asked for where it stands.
--- Assumes nothing.
 use mathlib.Core.Path.{◌≡◌, refl, sym, ap, ◌∙◌}
 use mathlib.Core.Bool.{Bool, true, false, beq, not, cond, true≢false}
 use mathlib.Core.Logic.{⊎_elim}

@@ -1,5 +1,4 @@
 -- What the profile accepts is accepted without it, with equal answers and lists.
--- Assumes nothing.
 use mathlib.Core.Path.{◌≡◌, sym, ◌∙◌}
 use mathlib.Core.List.{List, ◌++◌}
 use Prim.Native.Nat.{ℕ}

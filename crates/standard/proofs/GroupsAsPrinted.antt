@@ -1,6 +1,5 @@
 -- In a table of the profile every group of rules combines by appendix C's rule-combining algorithm of its kind, and every group of groups by its
 -- policy-combining one, for any test of which nodes apply that is closed.
--- Assumes nothing.
 use mathlib.Core.Path.{◌≡◌, refl, sym, ap, ◌∙◌}
 use mathlib.Core.Bool.{Bool, true, false, not, cond, true≢false}
 use mathlib.Core.Logic.{⊎_elim}

@@ -1,5 +1,4 @@
 -- The pass over the nodes, from the last to the first, that finds 14, 15 and 16: with one node more, and what it answers.
--- Assumes nothing.
 use mathlib.Core.Path.{◌≡◌, refl, sym, ap, ap₂, subst, ◌∙◌}
 use mathlib.Core.Bool.{Bool, true, false, not, cond, ◌&&◌, ◌||◌}
 use mathlib.Core.Logic.{inl, inr, ⊎_elim}

@@ -1,5 +1,4 @@
 -- What a group holds, by the numbers on the rows: those of its first child and of the node where it ends.
--- Assumes nothing.
 use mathlib.Core.Path.{◌≡◌, refl, sym, ap, subst, ◌∙◌}
 use mathlib.Core.Bool.{Bool, true, false, not, ◌||◌}
 use mathlib.Core.Logic.{⊎_elim}

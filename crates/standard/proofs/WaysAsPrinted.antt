@@ -1,6 +1,5 @@
 -- The four ways are appendix C's algorithms: of policies the policy-combining ones, of rules, which never give I, the rule-combining ones. Nodes are
 -- the children, for any test of which apply.
--- Assumes nothing.
 use mathlib.Core.Path.{◌≡◌, refl, sym, ap, ap₂, ◌∙◌}
 use mathlib.Core.Bool.{Bool, true, false, not, cond, ◌&&◌, ◌||◌}
 use mathlib.Core.List.{List, [], ◌∷◌, map}

@@ -21,7 +21,7 @@ pub(crate) struct Found {
     pub in_only_one: usize,
 }
 
-// Node i where it is at fault, else the lowest that is after it.
+// Node i where it is at fault, else the lowest after it.
 fn lowest_of(fault: bool, i: usize, after: usize) -> usize
     ensures { result ≡ cond fault i after }
 {
@@ -59,7 +59,7 @@ fn with_rule(after: Found) -> Found
     }
 }
 
-// With node i, where the numbers of rules and of groups are known for the row of each node after it.
+// With node i, where the counts of each node after it are known.
 fn with_node(
     table: &[u8],
     i: usize,

@@ -1,5 +1,4 @@
 -- An accepted table is well formed: what ruling needs follows where none of refusals 1 to 8 applies.
--- Assumes nothing.
 use mathlib.Core.Path.{◌≡◌, refl, ap}
 use mathlib.Core.Logic.{⊎_elim}
 use mathlib.Core.List.{List}

@@ -1,5 +1,4 @@
 -- Refusals 1 to 8 in their order, by the header and by each node; what an accepted table passes; what a reading tells a caller.
--- Assumes nothing.
 use mathlib.Core.Path.{◌≡◌, refl, ap, ap₂, ◌∙◌, sym}
 use mathlib.Core.Bool.{Bool, false, ◌&&◌}
 use mathlib.Core.List.{List}

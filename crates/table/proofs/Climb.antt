@@ -1,5 +1,4 @@
 -- Reading in one pass: the ends of the open nodes, one for each level, give each node's parent by climbing from the deepest of them.
--- Assumes nothing.
 use mathlib.Core.Path.{◌≡◌, sym, ap, ◌∙◌}
 use mathlib.Core.Bool.{cond}
 use mathlib.Core.Logic.{⊎_elim}

@@ -1,5 +1,4 @@
 -- What a node is like to which none of refusals 4 to 8 applies: these facts hold of it, and of no other.
--- Assumes nothing.
 use mathlib.Core.Path.{◌≡◌, refl, sym, ap, ap₂, ◌∙◌}
 use mathlib.Core.Bool.{Bool, true, false, not, cond, ◌&&◌, ◌||◌, false≢true}
 use mathlib.Core.List.{List}

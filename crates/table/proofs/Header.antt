@@ -1,5 +1,4 @@
 -- What a table that none of refusals 1 to 3 applies to is like.
--- Assumes nothing.
 use mathlib.Core.Path.{◌≡◌, ap, ap₂}
 use mathlib.Core.Bool.{false, not, ◌||◌}
 use mathlib.Core.List.{List}

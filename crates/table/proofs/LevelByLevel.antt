@@ -1,5 +1,4 @@
 -- The pass over the nodes that looks for one on the last level: what it holds before each node, and how it goes on.
--- Assumes nothing.
 use mathlib.Core.Path.{◌≡◌, refl, sym, ap, ◌∙◌}
 use mathlib.Core.Bool.{true, false}
 use mathlib.Core.Logic.{⊎_elim}

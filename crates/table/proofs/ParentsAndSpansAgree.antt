@@ -1,5 +1,4 @@
 -- In an accepted table, following parents from a node reaches exactly the nodes whose spans reach over it.
--- Assumes nothing.
 use mathlib.Core.Path.{◌≡◌, ap}
 use mathlib.Core.Logic.{⊎_elim, ◌↔◌}
 use mathlib.Core.List.{List}

@@ -1,5 +1,4 @@
 -- The pass over the nodes: what it holds before each node, what that says of the node, and how it goes on.
--- Assumes nothing.
 use mathlib.Core.Path.{◌≡◌, refl, sym, ap, ap₂, ◌∙◌}
 use mathlib.Core.Bool.{Bool, true, false, beq, cond, ◌&&◌}
 use mathlib.Core.Logic.{⊎_elim}

@@ -1,5 +1,4 @@
 -- Laws of a node's parent and level, and of following parents.
--- Assumes nothing.
 use mathlib.Core.Path.{◌≡◌, refl, sym, ap, ◌∙◌}
 use mathlib.Core.Bool.{cond}
 use mathlib.Core.Logic.{⊎_elim}

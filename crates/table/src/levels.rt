@@ -22,7 +22,7 @@ pub fn has_last_level(table: &[u8]) -> bool
             return true;
         }
         let span = span_at(table, i);
-        // A node that holds nothing is not opened.
+        // A node without children opens no level.
         if 1 < span {
             depth += 1;
             ends[depth] = i + span;

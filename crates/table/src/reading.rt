@@ -78,7 +78,7 @@ fn odd_span(span: usize, rule: bool) -> bool
     }
 }
 
-// Refusal 5, where the nodes that node i stands among end at above.
+// Refusal 5; `above` is the parent's end.
 fn span_fault(table: &[u8], i: usize, rule: bool, above: usize) -> bool
     requires node_held { NodeHeld table.now i }
     requires rule_value { (rule ≡ is_rule table.now i) × EndAbove table.now i above }
@@ -195,7 +195,7 @@ pub fn rule_at(table: &[u8], i: usize) -> bool
     }
 }
 
-// Whether group i, which holds something, asks for rules.
+// Whether group i's children must be rules under the profile. It has a child.
 fn asks_for_rules(table: &[u8], i: usize) -> bool
     requires { NodeHeld table.now i × NodeHeld table.now (i + 1) }
     ensures { result ≡ asks_for_rules table.now i }
@@ -216,7 +216,7 @@ pub struct Reading {
     pub conforms: bool,
 }
 
-// Reads a table, and sees whether it conforms: each node is a rule or a group, as is asked for where it stands.
+// Reads a table, and checks whether it conforms to the profile: each node is a rule exactly where its parent's children must be rules.
 pub fn read_conformance(table: &[u8]) -> Reading
     ensures number_value { (result.number ≡ (reading table.now).number) × (result.place ≡ (reading table.now).place) }
     ensures conforms_value { result.conforms ≡ (eqb result.number 0 && conforms table.now) }
@@ -230,7 +230,7 @@ pub fn read_conformance(table: &[u8]) -> Reading
         };
     }
     let n = count_at(table);
-    // Where the open node of each level ends, and whether it asks for rules. Level 0 is the table itself, which asks for a group.
+    // For each level, where its open node ends, and whether that node's children must be rules. Level 0 is the table itself, whose child must be a group.
     let mut ends = [n; LEVELS + 1];
     let mut rules = [false; LEVELS + 1];
     let mut conforms = true;
@@ -249,7 +249,7 @@ pub fn read_conformance(table: &[u8]) -> Reading
         }
         conforms = conforms & (rule_at(table, i) == rules[depth]);
         let span = span_at(table, i);
-        // A node that holds nothing is not opened.
+        // A node without children opens no level.
         if 1 < span {
             depth += 1;
             ends[depth] = i + span;

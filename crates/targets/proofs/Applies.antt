@@ -1,5 +1,4 @@
 -- Laws of a node that applies.
--- Assumes nothing.
 use Rattle.std.proofs.Common.{◌≡◌, ℕ, ◌+◌, ◌<◌, ◌≤◌, true, false, List}
 use Rattle.encoding.specs.Layout.{span, count}
 use Rattle.table.specs.Tree.{end_of}

@@ -1,5 +1,4 @@
 -- In an accepted table, a node applies exactly where its own target and that of every node above it by parents hold.
--- Assumes nothing.
 use Rattle.std.proofs.Common.{◌≡◌, ℕ, ◌<◌, true, ◌↔◌, List}
 use Rattle.encoding.specs.Layout.{count}
 use Rattle.table.specs.Tree.{Above}

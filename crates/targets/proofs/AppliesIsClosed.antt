@@ -1,5 +1,4 @@
 -- Where a node does not apply, nothing under it does: for a request of one subject, and for several subjects that ask together.
--- Assumes nothing.
 use Rattle.std.proofs.Common.{ℕ, List, ◌∷◌}
 use Rattle.table.specs.WellFormed.{WellFormed}
 use Rattle.targets.specs.Closed.{Closed}

@@ -1,5 +1,4 @@
 -- Laws of a target, tested from a word of ranges, whose fields after the first are tested one by one, one for each way through the code.
--- Assumes nothing.
 use Rattle.std.proofs.Common.{◌≡◌, ℕ, suc, ◌+◌, ◌-◌, ◌<◌, Bool, true, false, ◌&&◌, List, ◌∷◌, sym, ap, ◌∙◌, ap₂, add-one}
 use Rattle.answer.specs.Fields.{fields}
 use Rattle.answer.specs.Requests.{value}

@@ -1,5 +1,4 @@
 -- Laws of a value in a range, which may wrap: paper 7.
--- Assumes nothing.
 use Rattle.std.proofs.Common.{◌≡◌, ℕ, suc, ◌+◌, ◌-◌, ◌%◌, ◌<◌, ◌≤◌, true, ◌&&◌, ◌||◌, leb, ◌⊎◌, ◌↔◌, sym, ap, ◌∙◌, inl, inr, ⊎_elim, mod-eq_of_lt, arith, le-ltb, lt-ltb, le-leb, leb-true}
 use native.Mathlib.Nat.{mod-eq-sub-mod}
 use Rattle.answer.proofs.Tests.{lt_or_ge, both, one_of, or_true, passes_alike}

@@ -1,5 +1,4 @@
 -- Laws of a test of the members of a set of subjects, and of whether a node applies to some of them.
--- Assumes nothing.
 use Rattle.std.proofs.Common.{◌≡◌, ℕ, ◌<◌, Bool, true, false, ◌&&◌, ◌↔◌, List, ◌∷◌, sym, refl, ap, ◌∙◌, ap₂, true≢false}
 use Rattle.answer.proofs.Tests.{both}
 use Rattle.answer.proofs.Below.{some_where, some_none, some_one, none_each}

@@ -1,6 +1,5 @@
 -- In an accepted table, a node applies to a set of subjects exactly where some member survives all targets on the way down: by itself it
 -- meets the node's own target and that of every node above it by parents.
--- Assumes nothing.
 use Rattle.std.proofs.Common.{◌≡◌, ℕ, ◌<◌, true, ◌↔◌, List, ◌∷◌}
 use Rattle.encoding.specs.Layout.{count}
 use Rattle.table.specs.Tree.{Above}

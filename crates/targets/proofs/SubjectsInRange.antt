@@ -1,5 +1,4 @@
 -- Laws of the subjects in a range as a set, of those of a set that a target holds for, and of a set that is empty or has one over the maximum.
--- Assumes nothing.
 use Rattle.std.proofs.Common.{◌≡◌, ℕ, ◌+◌, ◌-◌, ◌*◌, ◌/◌, ◌%◌, ◌^◌, ◌<◌, ◌≤◌, Bool, true, false, not, ◌&&◌, ◌||◌, eqb, ltb, leb, List, ◌∷◌, sym, refl, ap, ◌∙◌, ap₂, ⊎_elim, arith, le-ltb, lt-ltb, eqb-true, le-leb}
 use borrow.Author.Tests.{lt-leb}
 use lib.Bits.{bit_and as word_and, bit_or as word_or}

@@ -1,5 +1,4 @@
 -- Paper 4, "the test from it passes exactly when the target holds": from a word that a node's ranges can be read back from.
--- Assumes nothing.
 use Rattle.std.proofs.Common.{◌≡◌, ℕ, ◌<◌, List, refl, ◌∙◌, ap₂}
 use Rattle.answer.specs.Fields.{fields}
 use Rattle.answer.specs.Requests.{value}

@@ -1,5 +1,4 @@
 -- Laws of a test of nodes that passes at a node and at every node above it, and above the next node: the first child, and the node after all under it.
--- Assumes nothing.
 use Rattle.std.proofs.Common.{◌≡◌, ℕ, zero, suc, ◌+◌, ◌<◌, ◌≤◌, Bool, true, false, not, ◌&&◌, ◌||◌, ltb, List, sym, refl, ap, ◌∙◌, ⊎_elim, true≢false, eq-or-lt_of_le, arith, le-ltb, lt-ltb}
 use Rattle.answer.proofs.Tests.{lt_or_ge}
 use Rattle.encoding.specs.Layout.{span, count}

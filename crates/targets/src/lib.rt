@@ -12,7 +12,7 @@ use encoding::layout::{high_of, low_of, ranges_at};
 use sets::{WORD, least_at, without_least};
 use std::num::{wrapping_sub_u8, wrapping_sub_u16};
 
-// All subjects that a set can have.
+// The set of all subjects from 0 to 63.
 const ALL: u64 = 18446744073709551615;
 
 // Whether a value lies in a range, both ends included: going up from low, and round to 0 after the last value of the type, it is met no later
@@ -23,7 +23,7 @@ pub fn in_range(low: u8, high: u8, value: u16) -> bool
     wrapping_sub_u16(value, low as u16) <= wrapping_sub_u16(high as u16, low as u16)
 }
 
-// The same of a byte, as the values of a field are: bytes are compared, and nothing is widened.
+// As `in_range`, of a value that is a byte, so that nothing is widened.
 pub fn byte_in_range(low: u8, high: u8, value: u8) -> bool
     ensures { result ≡ in_range low high value }
 {

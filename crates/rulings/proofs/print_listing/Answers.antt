@@ -1,5 +1,4 @@
--- `print_listing` is safe and ends: what is next is later.
--- Assumes nothing.
+-- `rulings::print_listing` is safe and ends: what is next is later.
 use borrow.Author.Tests.{not-false}
 use Rattle.listing.proofs.RequestsLeft.{fewer_left}
 use Rattle.rulings.proofs.print_listing.Goals as goal

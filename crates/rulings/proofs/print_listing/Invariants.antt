@@ -1,5 +1,4 @@
--- `print_listing` is safe and ends: what is next is later.
--- Assumes nothing.
+-- `rulings::print_listing` is safe and ends: what is next is later.
 use Rattle.std.proofs.Common.{◌≡◌, ◌+◌, ◌≤◌, length}
 use Rattle.answer.specs.Order.{IsRequest}
 use Rattle.diagram.specs.Layout.{maximum}

@@ -1,5 +1,4 @@
--- `print_rulings` is safe and ends: a diagram that was built is sound.
--- Assumes nothing.
+-- `rulings::print_rulings` is safe and ends: a diagram that was built is sound.
 use native.Mathlib.Omega.{arith}
 use Rattle.rulings.proofs.SoundWhereBuilt.{sound_where_built}
 use Rattle.rulings.proofs.print_rulings.Goals as goal

@@ -1,5 +1,4 @@
--- `read_full` is safe and ends: each read that does not end the input fills more of the buffer.
--- Assumes nothing.
+-- `rulings::read_full` is safe and ends: each read that does not end the input fills more of the buffer.
 use Rattle.std.proofs.Common.{◌≡◌, ◌-◌, ◌≤◌, length}
 use Rattle.rulings.proofs.read_full.Given as goal
 

@@ -1,4 +1,4 @@
--- `attaching::faults::too_large_lem` meets its contract: by the nodes of both tables and the levels of the expansion.
+-- `attaching::faults::too_large` meets its contract: by the nodes of both tables and the levels of the expansion.
 use mathlib.Core.Path.{◌∙◌}
 use Rattle.encoding.proofs.Places.{header_held}
 use Rattle.attaching.proofs.FitFaults.{too_many, by_levels}

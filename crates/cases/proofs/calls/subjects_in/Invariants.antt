@@ -1,5 +1,4 @@
--- `calls::subjects_in` is safe and ends: each turn goes on to the next number.
--- Assumes nothing.
+-- `cases::calls::subjects_in` is safe and ends: each turn goes on to the next number.
 use Rattle.std.proofs.Common.{◌-◌}
 use Rattle.cases.proofs.calls.subjects_in.Given as goal
 

@@ -1,5 +1,4 @@
--- `input::changed` is safe and ends: each turn goes on to a later pair.
--- Assumes nothing.
+-- `cases::input::changed` is safe and ends: each turn goes on to a later pair.
 use Rattle.std.proofs.Common.{◌≡◌, ◌-◌, length}
 use Rattle.cases.proofs.input.changed.Given as goal
 

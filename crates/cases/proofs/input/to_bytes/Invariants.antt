@@ -1,5 +1,4 @@
--- `input::to_bytes` is safe and ends: the loop counts up to the length of the list.
--- Assumes nothing.
+-- `cases::input::to_bytes` is safe and ends: the loop counts up to the length of the list.
 use Rattle.std.proofs.Common.{◌≡◌, ◌-◌, length}
 use Rattle.cases.proofs.input.to_bytes.Given as goal
 

@@ -1,5 +1,4 @@
--- `numbers::first_difference` is safe and ends: the loop counts up to the end.
--- Assumes nothing.
+-- `cases::numbers::first_difference` is safe and ends: the loop counts up to the end.
 use Rattle.std.proofs.Common.{◌-◌}
 use Rattle.cases.proofs.numbers.first_difference.Given as goal
 

@@ -1,5 +1,4 @@
--- `numbers::mark` is safe and ends: the loop counts up to the length of the list.
--- Assumes nothing.
+-- `cases::numbers::mark` is safe and ends: the loop counts up to the length of the list.
 use Rattle.std.proofs.Common.{◌≡◌, ◌-◌, length}
 use Rattle.cases.proofs.numbers.mark.Given as goal
 

@@ -1,5 +1,4 @@
--- `script::run` is safe and ends: each turn goes on to a later line.
--- Assumes nothing.
+-- `cases::script::run` is safe and ends: each turn goes on to a later line.
 use Rattle.std.proofs.Common.{◌-◌, length}
 use Rattle.cases.proofs.script.run.Given as goal
 

@@ -1,5 +1,4 @@
--- `tally::print_counts` is safe and ends: the loop counts up to the most numbers.
--- Assumes nothing.
+-- `cases::tally::print_counts` is safe and ends: the loop counts up to the most numbers.
 use Rattle.std.proofs.Common.{◌-◌}
 use Rattle.cases.proofs.tally.print_counts.Given as goal
 

@@ -1,5 +1,4 @@
--- `text::find` is safe and ends, and finds no earlier place: each turn goes on to a later one.
--- Assumes nothing.
+-- `cases::text::find` is safe and ends, and finds no earlier place: each turn goes on to a later one.
 use Rattle.std.proofs.Common.{◌-◌, ◌≤◌, length}
 use Rattle.cases.proofs.text.find.Given as goal
 

@@ -1,5 +1,4 @@
--- `text::scan` is safe and ends: the loop counts up to the length of the text.
--- Assumes nothing.
+-- `cases::text::scan` is safe and ends: the loop counts up to the length of the text.
 use Rattle.std.proofs.Common.{◌≡◌, ◌-◌, length}
 use Rattle.cases.proofs.text.scan.Given as goal
 

@@ -1,4 +1,4 @@
--- `table::layout::count_at` meets its contract: the number read is the count.
+-- `encoding::layout::count_at` meets its contract: the number read is the count.
 use mathlib.Core.Path.{ap, ◌∙◌}
 use Rattle.encoding.specs.Layout.{word, count}
 use Rattle.encoding.proofs.Places.{count_there}

@@ -1,4 +1,4 @@
--- `table::layout::header_size` meets its contract: the layout gives it.
+-- `encoding::layout::header_size` meets its contract: the layout gives it.
 use mathlib.Core.Path.{refl}
 use Rattle.encoding.specs.Layout.{count_place, header}
 use Rattle.encoding.proofs.layout.header_size.Goals as goal

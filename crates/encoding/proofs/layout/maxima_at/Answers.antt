@@ -1,4 +1,4 @@
--- `table::layout::maxima_at` meets its contract: the maxima before the field are written.
+-- `encoding::layout::maxima_at` meets its contract: the maxima before the field are written.
 use mathlib.Core.Path.{refl, ◌∙◌}
 use lib.ListN.{length-set}
 use Rattle.encoding.proofs.Maxima.{written_more, written_all}

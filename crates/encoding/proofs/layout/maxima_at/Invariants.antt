@@ -1,4 +1,4 @@
--- `table::layout::maxima_at` meets its contract: the maxima before the field are written.
+-- `encoding::layout::maxima_at` meets its contract: the maxima before the field are written.
 use mathlib.Core.Path.{◌≡◌}
 use Prim.Native.Nat.{◌-◌, ◌≤◌}
 use lib.ListN.{length}

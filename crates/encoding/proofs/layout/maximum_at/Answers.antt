@@ -1,4 +1,4 @@
--- `table::layout::maximum_at` meets its contract: the byte read is the maximum.
+-- `encoding::layout::maximum_at` meets its contract: the byte read is the maximum.
 use mathlib.Core.Path.{refl}
 use Rattle.encoding.specs.Layout.{count_place, maximum}
 use Rattle.encoding.proofs.Places.{count_there}

@@ -1,4 +1,4 @@
--- `table::layout::ranges_at` meets its contract: the range bytes of the fields passed so far are gathered.
+-- `encoding::layout::ranges_at` meets its contract: the range bytes of the fields passed so far are gathered.
 use mathlib.Core.Path.{sym, subst}
 use Prim.Native.Nat.{◌^◌, ◌<◌}
 use Rattle.encoding.specs.Ranges.{ReadsBack}

@@ -1,4 +1,4 @@
--- `table::layout::ranges_at` meets its contract: the range bytes of the fields passed so far are gathered.
+-- `encoding::layout::ranges_at` meets its contract: the range bytes of the fields passed so far are gathered.
 use Prim.Native.Nat.{◌-◌, ◌≤◌}
 use Rattle.answer.specs.Fields.{fields}
 use Rattle.encoding.proofs.RangesReadBack.{RangesGathered}

@@ -1,4 +1,4 @@
--- `table::layout::record_byte` meets its contract: the record lies in the table.
+-- `encoding::layout::record_byte` meets its contract: the record lies in the table.
 use mathlib.Core.Path.{ap}
 use Prim.Native.Nat.{◌+◌}
 use Rattle.encoding.specs.Layout.{byte, record_byte}

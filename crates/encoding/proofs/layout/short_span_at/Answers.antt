@@ -1,4 +1,4 @@
--- `table::layout::short_span_at` meets its contract: the high byte of a short span is 0.
+-- `encoding::layout::short_span_at` meets its contract: the high byte of a short span is 0.
 use mathlib.Core.Path.{◌≡◌, ap}
 use Prim.Native.Nat.{◌+◌}
 use Rattle.encoding.specs.Layout.{byte, word, start, record_byte, record_word}

@@ -1,4 +1,4 @@
--- `table::layout::start_of` meets its contract: the sums are those of the layout.
+-- `encoding::layout::start_of` meets its contract: the sums are those of the layout.
 use mathlib.Core.Path.{refl}
 use Rattle.encoding.specs.Layout.{count_place, header, record_size, start}
 use Rattle.std.proofs.Common.{arith}

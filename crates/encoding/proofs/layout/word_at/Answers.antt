@@ -1,4 +1,4 @@
--- `table::layout::word_at` meets its contract: the bytes read are those of the number.
+-- `encoding::layout::word_at` meets its contract: the bytes read are those of the number.
 use Rattle.encoding.specs.Layout.{word}
 use Rattle.std.proofs.Common.{arith}
 use Rattle.encoding.proofs.layout.word_at.Goals as goal

@@ -1,4 +1,4 @@
--- `table::writing::put_bytes_after` meets its contract: the header lies in the table.
+-- `encoding::writing::put_bytes_after` meets its contract: the header lies in the table.
 use Rattle.encoding.proofs.Places.{version_there}
 use Rattle.std.proofs.Common.{arith}
 use Rattle.encoding.proofs.writing.put_bytes_after.Goals as goal

@@ -1,4 +1,4 @@
--- `table::writing::put_count` meets its contract: the header lies in the table.
+-- `encoding::writing::put_count` meets its contract: the header lies in the table.
 use mathlib.Core.Path.{ap, ◌∙◌}
 use Rattle.encoding.specs.Writing.{with_word}
 use Rattle.encoding.proofs.Places.{count_there}

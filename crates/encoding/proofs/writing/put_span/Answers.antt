@@ -1,4 +1,4 @@
--- `table::writing::put_span` meets its contract: the record lies in the table.
+-- `encoding::writing::put_span` meets its contract: the record lies in the table.
 use mathlib.Core.Path.{ap, ◌∙◌}
 use mathlib.Core.List.{List}
 use Prim.Native.Nat.{ℕ, ◌+◌, ◌≤◌}

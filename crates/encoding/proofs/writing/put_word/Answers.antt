@@ -1,4 +1,4 @@
--- `table::writing::put_word` meets its contract: the two bytes are written.
+-- `encoding::writing::put_word` meets its contract: the two bytes are written.
 use mathlib.Core.Path.{refl}
 use Rattle.encoding.specs.Writing.{with_word}
 use Rattle.encoding.proofs.writing.put_word.Goals as goal

@@ -1,4 +1,4 @@
--- `lines::fields_line` meets its contract.
+-- `listing::lines::fields_line` meets its contract.
 use Rattle.std.proofs.Common.{◌+◌, ◌≤◌, refl, List, [], ◌∷◌, ◌++◌, ℕ, length, drop, arith}
 use lib.ListN.{length-take}
 use Rattle.answer.specs.Fields.{fields}

@@ -1,4 +1,4 @@
--- `lines::first_of` meets its contract.
+-- `listing::lines::first_of` meets its contract.
 use Rattle.std.proofs.Common.{◌+◌, ◌*◌, ◌-◌, arith}
 use Rattle.listing.proofs.Edges.{first_later}
 use Rattle.listing.proofs.lines.first_of.Goals as goal

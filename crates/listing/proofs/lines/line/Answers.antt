@@ -1,4 +1,4 @@
--- `lines::line` meets its contract: the line fits, and its items are written one after another.
+-- `listing::lines::line` meets its contract: the line fits, and its items are written one after another.
 use Rattle.std.proofs.Common.{◌≡◌, ◌+◌, ◌-◌, refl, ap, List, [], ◌∷◌, ◌++◌, ℕ, length, take, drop, arith}
 use Rattle.diagram.specs.Landed.{Landed}
 use Rattle.diagram.specs.LookUp.{ruled_by}

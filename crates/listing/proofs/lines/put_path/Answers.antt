@@ -1,4 +1,4 @@
--- `lines::put_path` meets its contract: the ranges of the fields so far are written, and lead to the place.
+-- `listing::lines::put_path` meets its contract: the ranges of the fields so far are written, and lead to the place.
 use Rattle.std.proofs.Common.{◌≡◌, ◌+◌, ◌≤◌, ◌<◌, refl, ap, List, [], ◌∷◌, ◌++◌, ℕ, length, drop, arith}
 use Rattle.answer.specs.Fields.{fields}
 use Rattle.answer.specs.Requests.{value, Within}

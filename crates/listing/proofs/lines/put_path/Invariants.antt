@@ -1,4 +1,4 @@
--- `lines::put_path` meets its contract: the ranges of the fields so far are written, and lead to the place.
+-- `listing::lines::put_path` meets its contract: the ranges of the fields so far are written, and lead to the place.
 use Prim.Native.Nat.{◌-◌}
 use lib.ListN.{drop}
 use Rattle.answer.specs.Fields.{fields}

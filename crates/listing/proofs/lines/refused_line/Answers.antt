@@ -1,4 +1,4 @@
--- `lines::refused_line` meets its contract.
+-- `listing::lines::refused_line` meets its contract.
 use Rattle.std.proofs.Common.{◌^◌, ◌≤◌, ◌<◌, refl, List, [], ◌∷◌, ◌++◌, ℕ, length, arith}
 use Rattle.listing.proofs.Lengths.{refused_line_short}
 use Rattle.listing.proofs.Writing.{Partly, partly_none, partly_first, partly_more, partly_all}

@@ -1,4 +1,4 @@
--- `pages::fill` meets its contract: the lines up to the next request are written, and fewer requests are left.
+-- `listing::pages::fill` meets its contract: the lines up to the next request are written, and fewer requests are left.
 use Rattle.std.proofs.Common.{◌≡◌, ◌+◌, ◌≤◌, ◌<◌, sym, ◌∙◌, true, length, arith}
 use Rattle.std.proofs.lemmas.Bool.{false≢true}
 use borrow.Author.Tests.{not-true, not-false}

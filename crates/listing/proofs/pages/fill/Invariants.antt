@@ -1,4 +1,4 @@
--- `pages::fill` meets its contract: the lines up to the next request are written, and fewer requests are left.
+-- `listing::pages::fill` meets its contract: the lines up to the next request are written, and fewer requests are left.
 use Rattle.listing.proofs.Filling.{Filling}
 use Rattle.listing.proofs.RequestsLeft.{requests_left}
 use Rattle.listing.proofs.pages.fill.Given as goal

@@ -1,4 +1,4 @@
--- `paths::next` meets its contract.
+-- `listing::paths::next` meets its contract.
 use Rattle.std.proofs.Common.{◌≡◌, length, arith}
 use Rattle.answer.specs.Fields.{fields}
 use Rattle.listing.proofs.NextIsLater.{next_is_later, after_is}

@@ -1,4 +1,4 @@
--- `text::put_all` meets its contract: the bytes before the i-th are written.
+-- `listing::text::put_all` meets its contract: the bytes before the i-th are written.
 use Rattle.std.proofs.Common.{◌≤◌, refl, [], ◌∷◌, length, get_or, arith}
 use Rattle.listing.proofs.Writing.{partly_none, partly_first, partly_more, partly_all, written_long}
 use Rattle.listing.proofs.Parts.{next_left, none_left}

@@ -1,4 +1,4 @@
--- `text::put_all` meets its contract: the bytes before the i-th are written.
+-- `listing::text::put_all` meets its contract: the bytes before the i-th are written.
 use Prim.Native.Nat.{◌-◌, ◌≤◌}
 use lib.ListN.{length, drop}
 use Rattle.listing.proofs.Writing.{Partly}

@@ -1,4 +1,4 @@
--- `text::put_decision` meets its contract, for each decision.
+-- `listing::text::put_decision` meets its contract, for each decision.
 use Rattle.std.proofs.Common.{◌≡◌, ℕ, sym, ap, subst, arith}
 use Rattle.listing.proofs.Writing.{written_as}
 use Rattle.listing.specs.Written.{RoomFor}

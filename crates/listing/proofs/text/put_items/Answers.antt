@@ -1,4 +1,4 @@
--- `text::put_items` meets its contract: the numbers before the i-th are written.
+-- `listing::text::put_items` meets its contract: the numbers before the i-th are written.
 use Rattle.std.proofs.Common.{◌+◌, ◌≤◌, refl, [], ◌∷◌, ◌++◌, length, drop, get_or, arith}
 use Rattle.listing.proofs.Items.{items_next, items_end}
 use Rattle.listing.proofs.Writing.{Partly, partly_none, partly_first, partly_more, partly_all, written_long}

@@ -1,4 +1,4 @@
--- `text::put_range` meets its contract.
+-- `listing::text::put_range` meets its contract.
 use Rattle.std.proofs.Common.{[], ◌∷◌}
 use Rattle.listing.proofs.Writing.{room_first, room_rest, room_between, written_join}
 use Rattle.listing.specs.Text.{decimal, dash, range}
