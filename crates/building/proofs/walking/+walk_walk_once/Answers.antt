@@ -1,5 +1,5 @@
 -- `building::walking::walk` and `walk_once`, which call each other, meet their contracts: before a value, those below it are walked.
-use Rattle.std.proofs.Common.{◌≡◌, suc, ◌<◌, refl, arith}
+use Rattle.std.proofs.Common.{◌≡◌, suc, ◌<◌, refl, arith, ℕ}
 use Rattle.sets.specs.Sets.{has}
 use Rattle.encoding.specs.Layout.{maximum}
 use Rattle.applying.specs.Members.{ruling_from}
@@ -8,6 +8,7 @@ use Rattle.entering.proofs.ValueByValue.{kept_both, kept_on, before_first, walks
 use Rattle.building.proofs.FieldByField.{header_there, walk_last, level_deep, walk_field, ValueRun, value_run, run_within, left_closed, run_alike, walks_value, value_near}
 use Rattle.building.proofs.Remembered.{remembers_on, known_near, known_seen, walked_anew, walked_noted}
 use Rattle.building.proofs.walking.+walk_walk_once.Goals as goal
+use Rattle.building.proofs.walking.+walk_walk_once.Goals.{walk-After-run_end-until}
 
 -- walk
 
@@ -38,12 +39,17 @@ walk-loop-value-init t c = record {
       (λ es h. (h.0, (h.1, λ some. absurd (some refl))));
 }
 
-pub walk-walk_once-under-requires : goal.walk-walk_once-under-requires
-walk-walk_once-under-requires t c =
-    let run : ValueRun c.args.table.now c.args.possible c.args.field c.loop-value.value c.run_end-until.result c.meet-here.result =
+-- the run that the value begins, once its end is known
+run_of : {t : ℕ} (c : walk-After-run_end-until t) →
+    ValueRun c.args.table.now c.args.possible c.args.field c.loop-value.value c.run_end-until.result c.meet-here.result
+run_of c =
     value_run c.args.sets.now c.args.field c.set_at.result c.requires.well_formed.1 c.loop-value.invariant.inside
     (omega (arith, c.loop-value.invariant.most_is, c.loop-value-test.true)) c.set_at.ensures c.meet-here.ensures
-    c.run_end-until.ensures.0 c.run_end-until.ensures.1 in
+    c.run_end-until.ensures.0 c.run_end-until.ensures.1
+
+pub walk-walk_once-under-requires : goal.walk-walk_once-under-requires
+walk-walk_once-under-requires t c =
+    let run = run_of (goal.at.walk-walk_once-under-requires t c).After-run_end-until in
     let b = c.loop-value.invariant.before in (
       omega (arith, c.decreases, c.loop-value.invariant.inside),
       (
@@ -54,10 +60,7 @@ walk-walk_once-under-requires t c =
 
 pub walk-returns-then-under : goal.walk-returns-then-under
 walk-returns-then-under t c =
-    let run : ValueRun c.args.table.now c.args.possible c.args.field c.loop-value.value c.run_end-until.result c.meet-here.result =
-    value_run c.args.sets.now c.args.field c.set_at.result c.requires.well_formed.1 c.loop-value.invariant.inside
-    (omega (arith, c.loop-value.invariant.most_is, c.loop-value-test.true)) c.set_at.ensures c.meet-here.ensures
-    c.run_end-until.ensures.0 c.run_end-until.ensures.1 in
+    let run = run_of (goal.at.walk-returns-then-under t c).After-run_end-until in
     let b = c.loop-value.invariant.before in
     let x = c.walk_once-under in record {
       walks =
@@ -68,18 +71,12 @@ walk-returns-then-under t c =
 
 pub walk-overflow_cast-until : goal.walk-overflow_cast-until
 walk-overflow_cast-until t c =
-    let run : ValueRun c.args.table.now c.args.possible c.args.field c.loop-value.value c.run_end-until.result c.meet-here.result =
-    value_run c.args.sets.now c.args.field c.set_at.result c.requires.well_formed.1 c.loop-value.invariant.inside
-    (omega (arith, c.loop-value.invariant.most_is, c.loop-value-test.true)) c.set_at.ensures c.meet-here.ensures
-    c.run_end-until.ensures.0 c.run_end-until.ensures.1 in
+    let run = run_of (goal.at.walk-overflow_cast-until t c).After-run_end-until in
     omega (arith, c.loop-value.invariant.most_is, c.loop-value.invariant.most_small, run_within run)
 
 pub walk-extend-edges-requires : goal.walk-extend-edges-requires
 walk-extend-edges-requires t c =
-    let run : ValueRun c.args.table.now c.args.possible c.args.field c.loop-value.value c.run_end-until.result c.meet-here.result =
-    value_run c.args.sets.now c.args.field c.set_at.result c.requires.well_formed.1 c.loop-value.invariant.inside
-    (omega (arith, c.loop-value.invariant.most_is, c.loop-value-test.true)) c.set_at.ensures c.meet-here.ensures
-    c.run_end-until.ensures.0 c.run_end-until.ensures.1 in
+    let run = run_of (goal.at.walk-extend-edges-requires t c).After-run_end-until in
     let k = c.walk_once-under.ensures.edges_kept in
     let few : c.loop-value.edges < 256 =
     omega (arith, c.loop-value.invariant.before.few, run.more, c.loop-value.invariant.most_is, c.loop-value.invariant.most_small) in
@@ -87,26 +84,17 @@ walk-extend-edges-requires t c =
 
 pub walk-overflow_add-value : goal.walk-overflow_add-value
 walk-overflow_add-value t c =
-    let run : ValueRun c.args.table.now c.args.possible c.args.field c.loop-value.value c.run_end-until.result c.meet-here.result =
-    value_run c.args.sets.now c.args.field c.set_at.result c.requires.well_formed.1 c.loop-value.invariant.inside
-    (omega (arith, c.loop-value.invariant.most_is, c.loop-value-test.true)) c.set_at.ensures c.meet-here.ensures
-    c.run_end-until.ensures.0 c.run_end-until.ensures.1 in
+    let run = run_of (goal.at.walk-overflow_add-value t c).After-run_end-until in
     omega (arith, c.loop-value.invariant.most_is, c.loop-value.invariant.most_small, run_within run)
 
 pub walk-loop-value-smaller : goal.walk-loop-value-smaller
 walk-loop-value-smaller t c =
-    let run : ValueRun c.args.table.now c.args.possible c.args.field c.loop-value.value c.run_end-until.result c.meet-here.result =
-    value_run c.args.sets.now c.args.field c.set_at.result c.requires.well_formed.1 c.loop-value.invariant.inside
-    (omega (arith, c.loop-value.invariant.most_is, c.loop-value-test.true)) c.set_at.ensures c.meet-here.ensures
-    c.run_end-until.ensures.0 c.run_end-until.ensures.1 in
+    let run = run_of (goal.at.walk-loop-value-smaller t c).After-run_end-until in
     omega (arith, c.loop-value.invariant.most_is, c.loop-value.invariant.most_small, run.far, run_within run)
 
 pub walk-loop-value-preserved : goal.walk-loop-value-preserved
 walk-loop-value-preserved t c =
-    let run : ValueRun c.args.table.now c.args.possible c.args.field c.loop-value.value c.run_end-until.result c.meet-here.result =
-    value_run c.args.sets.now c.args.field c.set_at.result c.requires.well_formed.1 c.loop-value.invariant.inside
-    (omega (arith, c.loop-value.invariant.most_is, c.loop-value-test.true)) c.set_at.ensures c.meet-here.ensures
-    c.run_end-until.ensures.0 c.run_end-until.ensures.1 in
+    let run = run_of (goal.at.walk-loop-value-preserved t c).After-run_end-until in
     let i = c.loop-value.invariant in
     let x = c.walk_once-under in
     let y = c.extend-edges in record {

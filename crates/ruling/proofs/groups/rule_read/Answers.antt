@@ -20,6 +20,7 @@ use Rattle.ruling.proofs.NodeByKind.{by_rule, by_group}
 use Rattle.ruling.proofs.Decisions.{ruled_not}
 use Rattle.std.proofs.Common.{arith}
 use Rattle.ruling.proofs.groups.rule_read.Goals as goal
+use Rattle.ruling.proofs.groups.rule_read.Goals.{After-count_at-count}
 
 -- once the members that are left at the root are known, and how many nodes there are
 module _ (t : List ℕ) (w : WellFormed t) (others : List ℕ) (s left : ℕ)
@@ -72,18 +73,33 @@ count_at-count-requires c = header_held c.args.table.now c.requires.records
 pub kind_at-kind-requires : goal.kind_at-kind-requires
 kind_at-kind-requires c = held c.args.table.now c.requires 0 c.requires.some
 
+-- once the count is read: the root is ruled for those that are left
+root_node : (c : After-count_at-count) →
+    Node (applies_to_some c.args.table.now c.members_left-left.result c.args.others.now) c.args.table.now 0 c.count_at-count.result 0
+root_node c =
+    node c.args.table.now c.requires c.args.others.now c.args.subjects c.members_left-left.result c.members_left-left.ensures
+    c.count_at-count.result c.count_at-count.ensures.0 (omega arith) (omega (arith, c.if-left-eq0.false))
+
+-- what it gives and gathers for them is what the groups give the whole set
+as_whole : (c : After-count_at-count) {d n : ℕ} {after : List ℕ} →
+    let t = c.args.table.now in
+    let left = applies_to_some t c.members_left-left.result c.args.others.now in
+    let all = applies_to_some t c.args.subjects c.args.others.now in
+    (d ≡ decision left t 0) × Gathered left t 0 c.count_at-count.result 0 n c.args.cards.now after →
+    ((d ≡ decision all t 0) × (n ≡ length (cards all t))) × (after ≡ sets c.args.cards.now 0 (cards all t))
+as_whole c =
+    whole c.args.table.now c.requires c.args.others.now c.args.subjects c.members_left-left.result c.members_left-left.ensures
+    c.count_at-count.result c.count_at-count.ensures.0
+
 pub rule_run-requires : goal.rule_run-requires
 rule_run-requires c =
     let t = c.args.table.now in
     let others = c.args.others.now in
     let left = c.members_left-left.result in
-    let n =
-    node t c.requires others c.args.subjects left c.members_left-left.ensures c.count_at-count.result c.count_at-count.ensures.0 (omega arith)
-    (omega (arith, c.if-left-eq0.false)) in
     record {
       well_formed = (c.requires, c.ways-ways.ensures);
       child_run = (
-        children (applies_to_some t left others) t c.requires 0 c.count_at-count.result 0 n,
+        children (applies_to_some t left others) t c.requires 0 c.count_at-count.result 0 (root_node (goal.at.rule_run-requires c).After-count_at-count),
         omega arith,
       );
       members_pass =
@@ -95,31 +111,18 @@ rule_match-requires c = (held c.args.table.now c.requires 0 c.requires.some, ome
 
 pub returns-in-0-to-3 : goal.returns-in-0-to-3
 returns-in-0-to-3 c =
-    let t = c.args.table.now in
-    let w = c.requires in
-    let others = c.args.others.now in
-    let left = c.members_left-left.result in
-    let is = c.members_left-left.ensures in
-    let end = c.count_at-count.result in
-    let counted = c.count_at-count.ensures.0 in
-    let n = node t w others c.args.subjects left is end counted (omega arith) (omega (arith, c.if-left-eq0.false)) in
+    let p = (goal.at.returns-in-0-to-3 c).After-count_at-count in
     let r =
-    whole t w others c.args.subjects left is end counted
-    (by_group (applies_to_some t left others) t w n c.kind_at-kind.ensures (omega arith) c.rule_run.ensures.decision_value c.rule_run.ensures.gathered) in
+    as_whole p
+    (by_group (applies_to_some c.args.table.now c.members_left-left.result c.args.others.now) c.args.table.now c.requires (root_node p) c.kind_at-kind.ensures
+    (omega arith) c.rule_run.ensures.decision_value c.rule_run.ensures.gathered) in
     record { decision_value = r.0; cards_after = r.1 }
 
 pub returns-in_default : goal.returns-in_default
 returns-in_default c =
-    let t = c.args.table.now in
-    let w = c.requires in
-    let others = c.args.others.now in
-    let left = c.members_left-left.result in
-    let is = c.members_left-left.ensures in
-    let end = c.count_at-count.result in
-    let counted = c.count_at-count.ensures.0 in
-    let n = node t w others c.args.subjects left is end counted (omega arith) (omega (arith, c.if-left-eq0.false)) in
+    let p = (goal.at.returns-in_default c).After-count_at-count in
     let r =
-    whole t w others c.args.subjects left is end counted
-    (by_rule (applies_to_some t left others) t w n c.kind_at-kind.ensures (omega arith) c.rule_match.ensures.decision_value.0
-    c.rule_match.ensures.decision_value.1 c.rule_match.ensures.cards_after) in
+    as_whole p
+    (by_rule (applies_to_some c.args.table.now c.members_left-left.result c.args.others.now) c.args.table.now c.requires (root_node p) c.kind_at-kind.ensures
+    (omega arith) c.rule_match.ensures.decision_value.0 c.rule_match.ensures.decision_value.1 c.rule_match.ensures.cards_after) in
     record { decision_value = r.0; cards_after = r.1 }
