@@ -1,17 +1,15 @@
 -- `listing::lines::put_path` meets its contract: the ranges of the fields so far are written, and lead to the place.
-use Rattle.std.proofs.Common.{◌≡◌, ◌+◌, ◌≤◌, ◌<◌, refl, ap, List, [], ◌∷◌, ◌++◌, ℕ, length, drop, arith}
+use Rattle.std.proofs.Common.{◌≡◌, ◌+◌, ◌≤◌, refl, ap, [], ◌∷◌, ◌++◌, length, drop, arith}
 use Rattle.answer.specs.Fields.{fields}
-use Rattle.answer.specs.Requests.{value, Within}
+use Rattle.answer.specs.Requests.{value}
 use Rattle.diagram.proofs.Descent.{EdgeAsked, down_none, edge_asked, down_more, landed}
-use Rattle.diagram.specs.Layout.{used, maximum, last_at, child_at}
-use Rattle.diagram.specs.LookUp.{edge}
-use Rattle.diagram.specs.Sound.{EntryBefore, next_level, Sound}
+use Rattle.diagram.specs.Layout.{last_at, child_at}
 use Rattle.listing.proofs.PathRanges.{ranges_next, ranges_end}
 use Rattle.listing.proofs.Writing.{Partly, partly_none, partly_first, partly_more, partly_all}
-use Rattle.listing.specs.Paths.{first_at, path_from, path_of}
+use Rattle.listing.specs.Paths.{path_from, path_of}
 use Rattle.listing.specs.Text.{space, range, ranges}
 use Rattle.listing.proofs.lines.put_path.Goals as goal
-use Rattle.listing.proofs.lines.put_path.Goals.{At-loop-field}
+use Rattle.listing.proofs.lines.put_path.Goals.{At-loop-field, In-loop-field, After-first_of-low}
 
 -- after the last field
 ended : (c : At-loop-field) → fields ≤ c.loop-field.field →
@@ -20,18 +18,18 @@ ended c l =
     let long : length c.args.values ≡ fields = omega arith in
     rw (← (ranges_end c.args.diagram.now c.args.values c.loop-field.place c.loop-field.field (omega (arith, long)))) c.loop-field.invariant.1
 
--- before a field f, at place p
-module _ (d q : List ℕ) (s : Sound fields d) (w : Within (maximum d) q) (p f : ℕ) (e : EntryBefore fields d (used d) (next_level fields f) p) (l : f < fields) where
-  asked : EdgeAsked d p (value q f)
-  asked = edge_asked d s p f e l _ (w f l)
+-- the edge that the field's value asks for
+asked : (c : In-loop-field) → EdgeAsked c.args.diagram.now c.loop-field.place (value c.args.values c.loop-field.field)
+asked c =
+    let f = c.loop-field.field in
+    edge_asked c.args.diagram.now c.requires.sound c.loop-field.place f c.loop-field.invariant.0.entry c.loop-field-test.true _ (c.requires.within f c.loop-field-test.true)
 
-  -- the ranges of the fields after this one, by its edge j
-  abbrev later : ℕ → List ℕ
-  later j = ranges (path_from d (child_at d p j) (drop (f + 1) q))
-
-  next : length q ≡ fields → (j low : ℕ) → j ≡ edge d p (value q f) → low ≡ first_at d p j →
-      ranges (path_from d p (drop f q)) ≡ range low (last_at d p j) ++ space ∷ later j
-  next long j low i k = ranges_next d q p f _ j low (omega (arith, long, l)) refl i k
+-- the bytes left before a field: its range, a space, and the ranges of the fields after it
+next : (c : After-first_of-low) → let d = c.args.diagram.now in let p = c.loop-field.place in let q = c.args.values in let j = c.edge_of-edge.result in
+    ranges (path_from d p (drop c.loop-field.field q)) ≡ range c.first_of-low.result (last_at d p j) ++ space ∷ ranges (path_from d (child_at d p j) (drop (c.loop-field.field + 1) q))
+next c =
+    let long : length c.args.values ≡ fields = omega arith in
+    ranges_next c.args.diagram.now c.args.values c.loop-field.place c.loop-field.field _ c.edge_of-edge.result c.first_of-low.result (omega (arith, long, c.loop-field-test.true)) refl c.edge_of-edge.ensures.0 c.first_of-low.ensures.0
 
 pub bounds-diagram-1 : goal.bounds-diagram-1
 bounds-diagram-1 c = omega (arith, c.requires.sound.header_there)
@@ -41,37 +39,33 @@ loop-field-init c = (down_none c.args.diagram.now c.requires.sound c.args.values
 
 pub edge_of-edge-requires : goal.edge_of-edge-requires
 edge_of-edge-requires c =
-    let a = asked c.args.diagram.now c.args.values c.requires.sound c.requires.within c.loop-field.place c.loop-field.field c.loop-field.invariant.0.entry c.loop-field-test.true in
+    let a = asked (goal.at.edge_of-edge-requires c).In-loop-field in
     record { place_lt_most_places = a.0; sound_node = a.1.0; value_bound = a.1.1 }
 
 pub first_of-low-requires : goal.first_of-low-requires
 first_of-low-requires c =
-    let a = asked c.args.diagram.now c.args.values c.requires.sound c.requires.within c.loop-field.place c.loop-field.field c.loop-field.invariant.0.entry c.loop-field-test.true in
+    let a = asked (goal.at.first_of-low-requires c).In-loop-field in
     (a.0.0, c.edge_of-edge.ensures.1, a.0.1)
 
 pub bounds-diagram-place : goal.bounds-diagram-place
 bounds-diagram-place c =
-    let a = asked c.args.diagram.now c.args.values c.requires.sound c.requires.within c.loop-field.place c.loop-field.field c.loop-field.invariant.0.entry c.loop-field-test.true in
+    let a = asked (goal.at.bounds-diagram-place c).In-loop-field in
     omega (arith, a.0.1, c.edge_of-edge.ensures.1)
 
 pub put_range-end-requires : goal.put_range-end-requires
 put_range-end-requires c =
-    let long : length c.args.values ≡ fields = omega arith in
-    let n = next c.args.diagram.now c.args.values c.requires.sound c.requires.within c.loop-field.place c.loop-field.field c.loop-field.invariant.0.entry c.loop-field-test.true
-    long c.edge_of-edge.result c.first_of-low.result c.edge_of-edge.ensures.0 c.first_of-low.ensures.0 in
+    let n = next (goal.at.put_range-end-requires c).After-first_of-low in
     partly_first c.loop-field.invariant.1 (range c.first_of-low.result (last_at c.args.diagram.now c.loop-field.place c.edge_of-edge.result)) _ n c.requires.room_for
 
 pub put-end-requires : goal.put-end-requires
 put-end-requires c =
-    let long : length c.args.values ≡ fields = omega arith in
-    let n = next c.args.diagram.now c.args.values c.requires.sound c.requires.within c.loop-field.place c.loop-field.field c.loop-field.invariant.0.entry c.loop-field-test.true
-    long c.edge_of-edge.result c.first_of-low.result c.edge_of-edge.ensures.0 c.first_of-low.ensures.0 in
+    let n = next (goal.at.put-end-requires c).After-first_of-low in
     let ranged = partly_more c.loop-field.invariant.1 n c.put_range-end.ensures in
     partly_first ranged (space ∷ []) _ refl c.requires.room_for
 
 pub bounds-diagram-place-in-loop-field : goal.bounds-diagram-place-in-loop-field
 bounds-diagram-place-in-loop-field c =
-    let a = asked c.args.diagram.now c.args.values c.requires.sound c.requires.within c.loop-field.place c.loop-field.field c.loop-field.invariant.0.entry c.loop-field-test.true in
+    let a = asked (goal.at.bounds-diagram-place-in-loop-field c).In-loop-field in
     omega (arith, a.0.1, c.edge_of-edge.ensures.1)
 
 pub loop-field-preserved : goal.loop-field-preserved
@@ -80,8 +74,7 @@ loop-field-preserved c =
     let q = c.args.values in
     let p = c.loop-field.place in
     let long : length c.args.values ≡ fields = omega arith in
-    let n = next c.args.diagram.now c.args.values c.requires.sound c.requires.within c.loop-field.place c.loop-field.field c.loop-field.invariant.0.entry c.loop-field-test.true
-    long c.edge_of-edge.result c.first_of-low.result c.edge_of-edge.ensures.0 c.first_of-low.ensures.0 in
+    let n = next (goal.at.loop-field-preserved c).After-first_of-low in
     let ranged = partly_more c.loop-field.invariant.1 n c.put_range-end.ensures in (
       down_more d c.requires.sound q c.requires.within p c.loop-field.field c.loop-field.invariant.0 c.loop-field-test.true (omega (arith, long, c.loop-field-test.true)) _ _ refl
           (ap (child_at d p) c.edge_of-edge.ensures.0),

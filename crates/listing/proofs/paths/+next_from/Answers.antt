@@ -1,16 +1,22 @@
 -- `paths::next_from`, which calls itself, meets its contract.
-use Rattle.std.proofs.Common.{◌≡◌, ◌<◌, refl, ℕ, List, length, arith}
+use Rattle.std.proofs.Common.{◌≡◌, ◌<◌, refl, ℕ, length, arith}
 use Rattle.answer.specs.Fields.{fields}
-use Rattle.answer.specs.Requests.{value, Within}
-use Rattle.diagram.specs.Layout.{used, maximum}
-use Rattle.diagram.specs.Sound.{EntryBefore, next_level, Sound}
+use Rattle.answer.specs.Requests.{value}
 use Rattle.diagram.proofs.Descent.{EdgeAsked, edge_asked, child_here}
 use Rattle.listing.proofs.NextPath.{no_field_left, moves_below, moves_on, starts_over}
 use Rattle.listing.proofs.paths.+next_from.Goals as goal
+use Rattle.listing.proofs.paths.+next_from.Goals.{Else-field-eq-FIELDS}
 
 -- where a field is left
-asked : (d q : List ℕ) (p f : ℕ) → Sound fields d → Within (maximum d) q → EntryBefore fields d (used d) (next_level fields f) p → f < fields → EdgeAsked d p (value q f)
-asked d q p f s w e l = edge_asked d s p f e l _ (w f l)
+module _ (t : ℕ) (c : Else-field-eq-FIELDS t) where
+  left : c.args.field < fields
+  left = omega (arith, c.requires.entry_before.1, c.if-field-eq-FIELDS.false)
+
+  asked : EdgeAsked c.args.diagram.now c.args.place (value c.args.values c.args.field)
+  asked = edge_asked c.args.diagram.now c.requires.sound c.args.place c.args.field c.requires.entry_before.0 left _ (c.requires.within c.args.field left)
+
+  left_here : c.args.field < length c.args.values
+  left_here = let long : length c.args.values ≡ fields = omega arith in omega (arith, long, left)
 
 pub returns-then-field-eq-FIELDS : goal.returns-then-field-eq-FIELDS
 returns-then-field-eq-FIELDS t c =
@@ -20,50 +26,44 @@ returns-then-field-eq-FIELDS t c =
 
 pub edge_of-edge-requires : goal.edge_of-edge-requires
 edge_of-edge-requires t c =
-    let a = asked c.args.diagram.now c.args.values c.args.place c.args.field c.requires.sound c.requires.within c.requires.entry_before.0
-    (omega (arith, c.requires.entry_before.1, c.if-field-eq-FIELDS.false)) in
+    let a = asked t (goal.at.edge_of-edge-requires t c).Else-field-eq-FIELDS in
     record { place_lt_most_places = a.0; sound_node = a.1.0; value_bound = a.1.1 }
 
 pub bounds-diagram-place : goal.bounds-diagram-place
 bounds-diagram-place t c =
-    let a = asked c.args.diagram.now c.args.values c.args.place c.args.field c.requires.sound c.requires.within c.requires.entry_before.0
-    (omega (arith, c.requires.entry_before.1, c.if-field-eq-FIELDS.false)) in
+    let a = asked t (goal.at.bounds-diagram-place t c).Else-field-eq-FIELDS in
     omega (arith, a.0.1, c.edge_of-edge.ensures.1)
 
 pub next_from-below-requires : goal.next_from-below-requires
 next_from-below-requires t c =
-    let l : c.args.field < fields = omega (arith, c.requires.entry_before.1, c.if-field-eq-FIELDS.false) in
+    let l : c.args.field < fields = left t (goal.at.next_from-below-requires t c).Else-field-eq-FIELDS in
     let e = child_here c.args.diagram.now c.requires.sound c.args.place c.args.field c.requires.entry_before.0 l _ (c.requires.within c.args.field l) in
     (omega (arith, c.decreases, l), (c.requires.sound, (c.requires.within, (rw (← c.edge_of-edge.ensures.0) at e, omega (arith, l)))))
 
 pub returns-then-below : goal.returns-then-below
 returns-then-below t c =
-    let long : length c.args.values ≡ fields = omega arith in
     let h = moves_below c.args.diagram.now c.args.values c.args.place c.args.field _ c.edge_of-edge.result _
-    (omega (arith, long, c.requires.entry_before.1, c.if-field-eq-FIELDS.false)) refl c.edge_of-edge.ensures.0 refl
+    (left_here t (goal.at.returns-then-below t c).Else-field-eq-FIELDS) refl c.edge_of-edge.ensures.0 refl
     c.next_from-below.result.more c.next_from-below.result.values (c.next_from-below.ensures.more_value, c.next_from-below.ensures.values_value) c.if-below.true in
     record { more_value = h.0; values_value = h.1 }
 
 pub first_of-requires : goal.first_of-requires
 first_of-requires t c =
-    let a = asked c.args.diagram.now c.args.values c.args.place c.args.field c.requires.sound c.requires.within c.requires.entry_before.0
-    (omega (arith, c.requires.entry_before.1, c.if-field-eq-FIELDS.false)) in
+    let a = asked t (goal.at.first_of-requires t c).Else-field-eq-FIELDS in
     (a.0.0, c.if-edge-diagram.true, a.0.1)
 
 pub returns-then-edge-diagram : goal.returns-then-edge-diagram
 returns-then-edge-diagram t c =
-    let long : length c.args.values ≡ fields = omega arith in
     let h = moves_on c.args.diagram.now c.args.values c.args.place c.args.field _ c.edge_of-edge.result _
-    (omega (arith, long, c.requires.entry_before.1, c.if-field-eq-FIELDS.false)) refl c.edge_of-edge.ensures.0 refl
+    (left_here t (goal.at.returns-then-edge-diagram t c).Else-field-eq-FIELDS) refl c.edge_of-edge.ensures.0 refl
     c.next_from-below.result.more c.next_from-below.result.values (c.next_from-below.ensures.more_value, c.next_from-below.ensures.values_value) c.if-below.false
     c.if-edge-diagram.true c.first_of.result c.first_of.ensures.0 in
     record { more_value = h.0; values_value = h.1 }
 
 pub returns : goal.returns
 returns t c =
-    let long : length c.args.values ≡ fields = omega arith in
     let h = starts_over c.args.diagram.now c.args.values c.args.place c.args.field _ c.edge_of-edge.result _
-    (omega (arith, long, c.requires.entry_before.1, c.if-field-eq-FIELDS.false)) refl c.edge_of-edge.ensures.0 refl
+    (left_here t (goal.at.returns t c).Else-field-eq-FIELDS) refl c.edge_of-edge.ensures.0 refl
     c.next_from-below.result.more c.next_from-below.result.values (c.next_from-below.ensures.more_value, c.next_from-below.ensures.values_value) c.if-below.false
     c.if-edge-diagram.false in
     record { more_value = h.0; values_value = h.1 }
