@@ -48,7 +48,7 @@ pub first_of-requires : goal.first_of-requires
 first_of-requires t c =
     let a = asked c.args.diagram.now c.args.values c.args.place c.args.field c.requires.sound c.requires.within c.requires.entry_before.0
     (omega (arith, c.requires.entry_before.1, c.if-field-eq-FIELDS.false)) in
-    (a.0.0, c.if-edge-diagram.true, a.0.1)
+    (a.0.0, omega (arith, c.if-edge-diagram.true), a.0.1)
 
 pub returns-then-edge-diagram : goal.returns-then-edge-diagram
 returns-then-edge-diagram t c =
@@ -56,7 +56,7 @@ returns-then-edge-diagram t c =
     let h = moves_on c.args.diagram.now c.args.values c.args.place c.args.field _ c.edge_of-edge.result _
     (omega (arith, long, c.requires.entry_before.1, c.if-field-eq-FIELDS.false)) refl c.edge_of-edge.ensures.0 refl
     c.next_from-below.result.more c.next_from-below.result.values (c.next_from-below.ensures.more_value, c.next_from-below.ensures.values_value) c.if-below.false
-    c.if-edge-diagram.true c.first_of.result c.first_of.ensures.0 in
+    (omega (arith, c.if-edge-diagram.true)) c.first_of.result c.first_of.ensures.0 in
     record { more_value = h.0; values_value = h.1 }
 
 pub returns : goal.returns
@@ -65,5 +65,5 @@ returns t c =
     let h = starts_over c.args.diagram.now c.args.values c.args.place c.args.field _ c.edge_of-edge.result _
     (omega (arith, long, c.requires.entry_before.1, c.if-field-eq-FIELDS.false)) refl c.edge_of-edge.ensures.0 refl
     c.next_from-below.result.more c.next_from-below.result.values (c.next_from-below.ensures.more_value, c.next_from-below.ensures.values_value) c.if-below.false
-    c.if-edge-diagram.false in
+    (omega (arith, c.if-edge-diagram.false)) in
     record { more_value = h.0; values_value = h.1 }
