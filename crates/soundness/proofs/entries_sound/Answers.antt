@@ -28,7 +28,7 @@ overflow_add-place c = omega (arith, c.requires.opened.used_most, c.loop-place-t
 pub returns-then-end-place : goal.returns-then-end-place
 returns-then-end-place c =
     not_tiled c.args.diagram.now c.requires.opened c.loop-place.marks c.loop-place.place c.loop-place.invariant.1 c.size_at-size.result c.loop-place-test.true
-    c.size_at-size.ensures.0 c.if-end-place.true
+    c.size_at-size.ensures.0 (omega (arith, c.if-end-place.true))
 
 pub entry_sound-requires : goal.entry_sound-requires
 entry_sound-requires c = record {

@@ -27,7 +27,7 @@ pub loop-edge-init : goal.loop-edge-init
 loop-edge-init c = (omega arith, checked_none c.args.diagram.now c.args.place)
 
 pub returns-then-last-from : goal.returns-then-last-from
-returns-then-last-from c = not_rising c.args.diagram.now c.args.place c.loop-edge.invariant.1 c.if-last-from.true c.loop-edge-test.true
+returns-then-last-from c = not_rising c.args.diagram.now c.args.place c.loop-edge.invariant.1 (omega (arith, c.if-last-from.true)) c.loop-edge-test.true
 
 pub returns-then-mark-below : goal.returns-then-mark-below
 returns-then-mark-below c =

@@ -50,14 +50,14 @@ returns-then-below t c =
 pub first_of-requires : goal.first_of-requires
 first_of-requires t c =
     let a = asked t (goal.at.first_of-requires t c).Else-field-eq-FIELDS in
-    (a.0.0, c.if-edge-diagram.true, a.0.1)
+    (a.0.0, omega (arith, c.if-edge-diagram.true), a.0.1)
 
 pub returns-then-edge-diagram : goal.returns-then-edge-diagram
 returns-then-edge-diagram t c =
     let h = moves_on c.args.diagram.now c.args.values c.args.place c.args.field _ c.edge_of-edge.result _
     (left_here t (goal.at.returns-then-edge-diagram t c).Else-field-eq-FIELDS) refl c.edge_of-edge.ensures.0 refl
     c.next_from-below.result.more c.next_from-below.result.values (c.next_from-below.ensures.more_value, c.next_from-below.ensures.values_value) c.if-below.false
-    c.if-edge-diagram.true c.first_of.result c.first_of.ensures.0 in
+    (omega (arith, c.if-edge-diagram.true)) c.first_of.result c.first_of.ensures.0 in
     record { more_value = h.0; values_value = h.1 }
 
 pub returns : goal.returns
@@ -65,5 +65,5 @@ returns t c =
     let h = starts_over c.args.diagram.now c.args.values c.args.place c.args.field _ c.edge_of-edge.result _
     (left_here t (goal.at.returns t c).Else-field-eq-FIELDS) refl c.edge_of-edge.ensures.0 refl
     c.next_from-below.result.more c.next_from-below.result.values (c.next_from-below.ensures.more_value, c.next_from-below.ensures.values_value) c.if-below.false
-    c.if-edge-diagram.false in
+    (omega (arith, c.if-edge-diagram.false)) in
     record { more_value = h.0; values_value = h.1 }

@@ -25,8 +25,8 @@ pub overflow_add-i : goal.overflow_add-i
 overflow_add-i c = omega (arith, number_small c.args.table.now (c.args.i + 1) c.requires.1)
 
 pub returns-then-kind_at-eq-ONLY_ONE_APPLICABLE : goal.returns-then-kind_at-eq-ONLY_ONE_APPLICABLE
-returns-then-kind_at-eq-ONLY_ONE_APPLICABLE c = asks_none c.args.table.now c.args.i (sym c.kind_at.ensures ∙ c.if-kind_at-eq-ONLY_ONE_APPLICABLE.true)
+returns-then-kind_at-eq-ONLY_ONE_APPLICABLE c = asks_none c.args.table.now c.args.i (omega (arith, c.kind_at.ensures, c.if-kind_at-eq-ONLY_ONE_APPLICABLE.true))
 
 pub returns-else-kind_at-eq-ONLY_ONE_APPLICABLE : goal.returns-else-kind_at-eq-ONLY_ONE_APPLICABLE
 returns-else-kind_at-eq-ONLY_ONE_APPLICABLE c = c.rule_at.ensures
-    ∙ asks-first c.args.table.now c.args.i (λ e. c.if-kind_at-eq-ONLY_ONE_APPLICABLE.false (c.kind_at.ensures ∙ e))
+    ∙ asks-first c.args.table.now c.args.i (λ z. omega (arith, c.kind_at.ensures, c.if-kind_at-eq-ONLY_ONE_APPLICABLE.false))

@@ -14,7 +14,7 @@ returns-then-odd_span c = span_odd c.args.table.now c.args.i c.span_at-span.resu
 
 pub returns-then-above-i : goal.returns-then-above-i
 returns-then-above-i c = span_past c.args.table.now c.args.i c.span_at-span.result c.args.rule c.span_at-span.ensures.0 c.requires.rule_value.0 c.odd_span.result
-    c.odd_span.ensures c.if-odd_span.false c.args.above c.requires.rule_value.1 c.if-above-i.true
+    c.odd_span.ensures c.if-odd_span.false c.args.above c.requires.rule_value.1 (omega (arith, c.if-above-i.true))
 
 pub returns-then-i-eq0 : goal.returns-then-i-eq0
 returns-then-i-eq0 c = span_root c.args.table.now c.args.i c.span_at-span.result c.args.rule c.span_at-span.ensures.0 c.requires.rule_value.0 c.odd_span.result
@@ -22,4 +22,4 @@ returns-then-i-eq0 c = span_root c.args.table.now c.args.i c.span_at-span.result
 
 pub returns-else-i-eq0 : goal.returns-else-i-eq0
 returns-else-i-eq0 c = span_inside c.args.table.now c.args.i c.span_at-span.result c.args.rule c.span_at-span.ensures.0 c.requires.rule_value.0 c.odd_span.result
-    c.odd_span.ensures c.if-odd_span.false c.args.above c.requires.rule_value.1 (pos_of_ne-zero c.if-i-eq0.false) c.if-above-i.false
+    c.odd_span.ensures c.if-odd_span.false c.args.above c.requires.rule_value.1 (pos_of_ne-zero c.if-i-eq0.false) (omega (arith, c.if-above-i.false))
