@@ -5,7 +5,7 @@ use Rattle.std.proofs.Common.{arith}
 use Rattle.soundness.proofs.terminal_sound.Goals as goal
 
 pub returns-then-diagram-place : goal.returns-then-diagram-place
-returns-then-diagram-place c = decision_over c.args.diagram.now c.args.place _ refl c.if-diagram-place.true
+returns-then-diagram-place c = decision_over c.args.diagram.now c.args.place _ refl (omega (arith, c.if-diagram-place.true))
 
 pub loop-i-init : goal.loop-i-init
 loop-i-init c = (refl, omega arith, omega arith, λ j h. absurd (omega arith))
