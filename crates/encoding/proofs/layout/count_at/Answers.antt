@@ -1,5 +1,5 @@
 -- `encoding::layout::count_at` meets its contract: the number read is the count.
-use Rattle.std.proofs.Common.{arith, ap, ◌∙◌}
+use Rattle.std.proofs.Common.{arith, ap}
 use Rattle.encoding.specs.Layout.{word, count}
 use Rattle.encoding.proofs.Places.{count_there}
 use Rattle.encoding.proofs.layout.count_at.Goals as goal
