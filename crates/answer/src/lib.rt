@@ -7,6 +7,10 @@ ghost use Rattle.answer.specs.Fields.{fields};
 ghost use Rattle.answer.specs.Answers.{refused, blank, counted, ruled, zeros};
 ghost use Rattle.answer.specs.Requests.{value, field_fault, one_of_fields};
 
+pub mod refusal;
+
+pub use refusal::{Refusal, Refused};
+
 // How many fields a request has: subject, resource, action.
 pub const FIELDS: usize = 3;
 
