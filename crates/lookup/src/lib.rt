@@ -12,26 +12,17 @@ ghost use Rattle.diagram.specs.Landed.{Landed};
 ghost use Rattle.diagram.specs.LookedUp.{sound_looked_up, sound_looked_up_list, looked_up, looked_up_list};
 
 use answer::{Answer, FIELDS, Request, clear, field_fault, store};
+use diagram::layout::edges_of;
 use soundness::is_sound;
 
-// The edge of a value at the sound node at a place. Last values rise, so it is found by halving.
+// The edge of a value at the sound node at a place: the first that does not end below it. Last values rise.
 pub fn edge_of(diagram: &[u16], place: usize, value: u16) -> usize
     requires place_lt_most_places { (place < most_places) × (place + 2 + 2 * edges_at diagram.now place ≤ length diagram.now) }
     requires sound_node { SoundNode fields diagram.now place }
     requires value_bound { value ≤ maximum diagram.now (level_at diagram.now place - 1) }
     ensures { (result ≡ edge diagram.now place value) × (result < edges_at diagram.now place) }
 {
-    let mut low: usize = 0;
-    let mut high: usize = diagram[place + 1] as usize - 1;
-    while low < high {
-        let middle = low + (high - low) / 2;
-        if diagram[place + 2 + 2 * middle] < value {
-            low = middle + 1;
-        } else {
-            high = middle;
-        }
-    }
-    low
+    edges_of(diagram, place).partition_point(|edge| edge[0] < value)
 }
 
 // The child for a value of the sound node at a place.
@@ -42,7 +33,7 @@ fn child_of(diagram: &[u16], place: usize, value: u16) -> usize
     ensures { (result ≡ child diagram.now place value) × (result < 65536) }
 {
     let edge = edge_of(diagram, place, value);
-    diagram[place + 3 + 2 * edge] as usize
+    usize::from(diagram[place + 3 + 2 * edge])
 }
 
 // The place of the terminal that the values reach from the root of a sound diagram.
@@ -51,11 +42,9 @@ fn descend(diagram: &[u16], values: [u16; FIELDS]) -> usize
     requires within { Within (maximum diagram.now) values }
     ensures { Landed diagram.now values result }
 {
-    let mut place = diagram[1] as usize;
-    let mut field = 0;
-    while field < FIELDS {
-        place = child_of(diagram, place, values[field]);
-        field += 1;
+    let mut place = usize::from(diagram[1]);
+    for value in values {
+        place = child_of(diagram, place, value);
     }
     place
 }
@@ -68,18 +57,17 @@ pub fn look_up_sound(diagram: &[u16], request: Request, cards: &mut [u16]) -> An
     ensures cards_after { cards.new ≡ sound_looked_up_list diagram.now request.values (length cards.old) }
 {
     let values = request.values;
-    let field = field_fault(&diagram[2..2 + FIELDS], &values, 0);
-    if field < FIELDS {
+    if let Some(field) = field_fault(&diagram[2..2 + FIELDS], &values, 0) {
         return Answer::refused(9, field);
     }
     let place = descend(diagram, values);
-    let count = diagram[place + 2] as usize;
+    let count = usize::from(diagram[place + 2]);
     if cards.len() < count {
         return Answer::refused(10, 0);
     }
     let from = place + 3;
     let to = from + count;
-    store(&diagram[from..to], cards);
+    store(&diagram[from..to], cards, 0);
     Answer::ruled(diagram[place + 1] as u8, count, 0)
 }
 
