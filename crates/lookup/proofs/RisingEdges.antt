@@ -1,5 +1,5 @@
 -- The edges of a sound node rise, so that the edge of a value is where those below the value end.
-use Rattle.std.proofs.Common.{◌≡◌, sym, ap, subst, ⊎_elim, Bool, true, false, List, [], ◌∷◌, ℕ, zero, suc, ◌+◌, ◌-◌, ◌≤◌, ◌<◌, arith, add-one, ltb, get_or, length, ltb-true, ltb-false}
+use Rattle.std.proofs.Common.{◌≡◌, sym, ap, subst, ⊎_elim, true, false, List, [], ℕ, zero, suc, ◌-◌, ◌≤◌, ◌<◌, arith, add-one, ltb, get_or, length, ltb-true, ltb-false}
 use Rattle.std.specs.List.Sorted.{IsPartitionPoint, IsPartitionedBy}
 use Rattle.std.proofs.lemmas.List.Sorted.{IsNonDecreasingBy-from_default, IsPartitionedBy-ltb}
 use native.Mathlib.Nat.{eq-or-lt_of_le}

@@ -12,8 +12,9 @@ ghost use Rattle.diagram.specs.Landed.{Landed};
 ghost use Rattle.diagram.specs.LookedUp.{sound_looked_up, sound_looked_up_list, looked_up, looked_up_list};
 
 use answer::{Answer, FIELDS, Request, clear, field_fault, store};
+use diagram::HEADER;
 use diagram::layout::edges_of;
-use soundness::is_sound;
+use soundness::checked::SoundDiagram;
 
 // The edge of a value at the sound node at a place: the first that does not end below it. Last values rise.
 pub fn edge_of(diagram: &[u16], place: usize, value: u16) -> usize
@@ -36,39 +37,38 @@ fn child_of(diagram: &[u16], place: usize, value: u16) -> usize
     usize::from(diagram[place + 3 + 2 * edge])
 }
 
-// The place of the terminal that the values reach from the root of a sound diagram.
-fn descend(diagram: &[u16], values: [u16; FIELDS]) -> usize
-    requires sound { Sound fields diagram.now }
-    requires within { Within (maximum diagram.now) values }
-    ensures { Landed diagram.now values result }
+// The place of the terminal that the values reach from the root of a diagram.
+fn descend(diagram: SoundDiagram, values: [u16; FIELDS]) -> usize
+    requires { Within (maximum diagram.numbers.now) values }
+    ensures { Landed diagram.entry.numbers.now values result }
 {
-    let mut place = usize::from(diagram[1]);
+    let mut place = usize::from(diagram.numbers[1]);
     for value in values {
-        place = child_of(diagram, place, value);
+        place = child_of(diagram.numbers, place, value);
     }
     place
 }
 
 // Rules on a request by a sound diagram, with a list that was cleared: refusals 9 and 10 in order, or the decision and the cards.
-pub fn look_up_sound(diagram: &[u16], request: Request, cards: &mut [u16]) -> Answer
-    requires sound { Sound fields diagram.now }
-    requires cards_value { cards.old ≡ zeros (length cards.old) }
-    ensures value { result ≡ sound_looked_up diagram.now request.values (length cards.old) }
-    ensures cards_after { cards.new ≡ sound_looked_up_list diagram.now request.values (length cards.old) }
+pub fn look_up_sound(diagram: SoundDiagram, request: Request, cards: &mut [u16]) -> Answer
+    requires { cards.old ≡ zeros (length cards.old) }
+    ensures value { result ≡ sound_looked_up diagram.entry.numbers.now request.values (length cards.old) }
+    ensures cards_after { cards.new ≡ sound_looked_up_list diagram.entry.numbers.now request.values (length cards.old) }
 {
+    let numbers = diagram.numbers;
     let values = request.values;
-    if let Some(field) = field_fault(&diagram[2..2 + FIELDS], &values, 0) {
+    if let Some(field) = field_fault(&numbers[2..HEADER], &values, 0) {
         return Answer::refused(9, field);
     }
     let place = descend(diagram, values);
-    let count = usize::from(diagram[place + 2]);
+    let count = usize::from(numbers[place + 2]);
     if cards.len() < count {
         return Answer::refused(10, 0);
     }
     let from = place + 3;
     let to = from + count;
-    store(&diagram[from..to], cards, 0);
-    Answer::ruled(diagram[place + 1] as u8, count, 0)
+    store(&numbers[from..to], cards, 0);
+    Answer::ruled(numbers[place + 1] as u8, count, 0)
 }
 
 // Rules on a request by a diagram: the decision, and in the list the terminal's cards, with zeros after them.
@@ -77,8 +77,8 @@ pub fn look_up(diagram: &[u16], request: Request, cards: &mut [u16]) -> Answer
     ensures cards_after { cards.new ≡ looked_up_list diagram.now request.values (length cards.old) }
 {
     clear(cards);
-    if !is_sound(diagram) {
+    let Some(sound) = SoundDiagram::check(diagram) else {
         return Answer::refused(12, 0);
-    }
-    look_up_sound(diagram, request, cards)
+    };
+    look_up_sound(sound, request, cards)
 }

@@ -3,4 +3,4 @@ use Rattle.diagram.proofs.Descent.{Down}
 use Rattle.lookup.proofs.descend.Given as goal
 
 abbrev pub invariant-loop-value : goal.invariant-loop-value
-invariant-loop-value l = Down l.diagram l.value-items l.place l.value-index
+invariant-loop-value l = Down l.diagram.numbers.now l.value-items l.place l.value-index
