@@ -4,14 +4,15 @@
 ghost use Rattle.std.specs.Prelude.{◌≡◌, ◌+◌, ◌*◌, ◌-◌, ◌≤◌, ◌<◌, length};
 ghost use Rattle.answer.specs.Fields.{fields};
 ghost use Rattle.answer.specs.Answers.{zeros};
+ghost use Rattle.answer.specs.Numbers.{answer_by};
 ghost use Rattle.answer.specs.Requests.{Within};
 ghost use Rattle.diagram.specs.Layout.{most_places, maximum, level_at, edges_at};
 ghost use Rattle.diagram.specs.LookUp.{edge, child};
-ghost use Rattle.diagram.specs.Sound.{SoundNode, Sound};
+ghost use Rattle.diagram.specs.Sound.{SoundNode};
 ghost use Rattle.diagram.specs.Landed.{Landed};
 ghost use Rattle.diagram.specs.LookedUp.{sound_looked_up, sound_looked_up_list, looked_up, looked_up_list};
 
-use answer::{Answer, FIELDS, Request, clear, field_fault, store};
+use answer::{Answer, FIELDS, Refusal, Refused, Request, clear, field_fault, store};
 use diagram::HEADER;
 use diagram::layout::edges_of;
 use soundness::checked::SoundDiagram;
@@ -50,25 +51,50 @@ fn descend(diagram: SoundDiagram, values: [u16; FIELDS]) -> usize
 }
 
 // Rules on a request by a sound diagram, with a list that was cleared: refusals 9 and 10 in order, or the decision and the cards.
-pub fn look_up_sound(diagram: SoundDiagram, request: Request, cards: &mut [u16]) -> Answer
+pub fn look_up_sound(
+    diagram: SoundDiagram,
+    request: Request,
+    cards: &mut [u16],
+) -> Result<Answer, Refused>
     requires { cards.old ≡ zeros (length cards.old) }
-    ensures value { result ≡ sound_looked_up diagram.entry.numbers.now request.values (length cards.old) }
+    ensures value { answer_by (λ answer. answer) result ≡ sound_looked_up diagram.entry.numbers.now request.values (length cards.old) }
     ensures cards_after { cards.new ≡ sound_looked_up_list diagram.entry.numbers.now request.values (length cards.old) }
 {
     let numbers = diagram.numbers;
     let values = request.values;
     if let Some(field) = field_fault(&numbers[2..HEADER], &values, 0) {
-        return Answer::refused(9, field);
+        return Err(Refused {
+            refusal: Refusal::Value,
+            place: field,
+        });
     }
     let place = descend(diagram, values);
     let count = usize::from(numbers[place + 2]);
     if cards.len() < count {
-        return Answer::refused(10, 0);
+        return Err(Refused {
+            refusal: Refusal::ListTooShort,
+            place: 0,
+        });
     }
     let from = place + 3;
     let to = from + count;
     store(&numbers[from..to], cards, 0);
-    Answer::ruled(numbers[place + 1] as u8, count, 0)
+    Ok(Answer::ruled(numbers[place + 1] as u8, count, 0))
+}
+
+// Rules on a request by a diagram, with a list that was cleared: refusal 12 before those.
+fn look_up_checked(diagram: &[u16], request: Request, cards: &mut [u16]) -> Result<Answer, Refused>
+    requires { cards.old ≡ zeros (length cards.old) }
+    ensures value { answer_by (λ answer. answer) result ≡ looked_up diagram.now request.values (length cards.old) }
+    ensures cards_after { cards.new ≡ looked_up_list diagram.now request.values (length cards.old) }
+{
+    let Some(sound) = SoundDiagram::check(diagram) else {
+        return Err(Refused {
+            refusal: Refusal::Diagram,
+            place: 0,
+        });
+    };
+    look_up_sound(sound, request, cards)
 }
 
 // Rules on a request by a diagram: the decision, and in the list the terminal's cards, with zeros after them.
@@ -77,8 +103,8 @@ pub fn look_up(diagram: &[u16], request: Request, cards: &mut [u16]) -> Answer
     ensures cards_after { cards.new ≡ looked_up_list diagram.now request.values (length cards.old) }
 {
     clear(cards);
-    let Some(sound) = SoundDiagram::check(diagram) else {
-        return Answer::refused(12, 0);
-    };
-    look_up_sound(sound, request, cards)
+    match look_up_checked(diagram, request, cards) {
+        Ok(answer) => answer,
+        Err(refused) => Answer::from(refused),
+    }
 }

@@ -33,8 +33,8 @@ returns-in-Some c =
     let d = c.args.diagram.numbers.now in
     let q = c.args.request.values in
     let found = found_one c.in-Some.field _ c.in-Some.ensures in
-    let p = asked_over [] (maximum d) q 0 (omega arith) (ruled_by d q) 0 (length c.args.cards.now) c.refused.result c.args.cards.now tt
-    c.in-Some.field (found.0 ∙ maxima_fault d q 0 (omega arith)) found.1 c.refused.ensures c.requires in
+    let p = asked_over [] (maximum d) q 0 (omega arith) (ruled_by d q) 0 (length c.args.cards.now) _ c.args.cards.now tt
+    c.in-Some.field (found.0 ∙ maxima_fault d q 0 (omega arith)) found.1 refl c.requires in
     record { value = p.0; cards_after = p.1 }
 
 pub descend-place-requires : goal.descend-place-requires
@@ -45,10 +45,10 @@ pub returns-then-cards-count : goal.returns-then-cards-count
 returns-then-cards-count c =
     let d = c.args.diagram.numbers.now in
     let q = c.args.request.values in
-    let p = asked_short [] (maximum d) q 0 (omega arith) (ruled_by d q) 0 (length c.args.cards.now) c.refused-then-cards-count.result c.args.cards.now tt
+    let p = asked_short [] (maximum d) q 0 (omega arith) (ruled_by d q) 0 (length c.args.cards.now) _ c.args.cards.now tt
     (field_fault (maximum d) q 0) refl (none_at_fault (goal.at.returns-then-cards-count c).In_default)
     (count_at d c.descend-place.result) (count_there (goal.at.returns-then-cards-count c).After-descend-place)
-    (omega (arith, c.if-cards-count.true)) c.refused-then-cards-count.ensures c.requires in
+    (omega (arith, c.if-cards-count.true)) refl c.requires in
     record { value = p.0; cards_after = p.1 }
 
 pub returns : goal.returns
