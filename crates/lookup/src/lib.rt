@@ -103,8 +103,5 @@ pub fn look_up(diagram: &[u16], request: Request, cards: &mut [u16]) -> Answer
     ensures cards_after { cards.new ≡ looked_up_list diagram.now request.values (length cards.old) }
 {
     clear(cards);
-    match look_up_checked(diagram, request, cards) {
-        Ok(answer) => answer,
-        Err(refused) => Answer::from(refused),
-    }
+    look_up_checked(diagram, request, cards).unwrap_or_else(Answer::from)
 }
