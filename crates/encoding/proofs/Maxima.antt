@@ -3,9 +3,8 @@ use mathlib.Core.Path.{◌≡◌, refl, sym, ap, ◌∙◌}
 use mathlib.Core.List.{List}
 use Prim.Native.Nat.{ℕ, zero, suc, ◌+◌, ◌≤◌, ◌<◌}
 use native.Mathlib.Omega.{arith}
-use borrow.Author.Count.{below_more}
-use lib.ListN.{length, get_or, set}
-use lib.Seq.{get_or-set_same, get_or-set_other, ext_get_or}
+use lib.ListN.{length, get_or}
+use lib.Seq.{ext_get_or}
 use Rattle.answer.specs.Fields.{fields}
 use Rattle.answer.specs.Requests.{value, field_fault}
 use Rattle.answer.proofs.FirstField.{fault_alike}
@@ -49,12 +48,6 @@ module _ (t : List ℕ) where
   MaximaWritten field list = (f : ℕ) → f < field → get_or list f 0 ≡ maximum t f
 
   module _ (field : ℕ) (list : List ℕ) (long : length list ≡ fields) (w : MaximaWritten field list) where
-    pub written_more : (m : ℕ) → field < fields → m ≡ maximum t field → MaximaWritten (field + 1) (set list field m)
-    written_more m l e =
-        below_more (λ f. get_or (set list field m) f 0 ≡ maximum t f) field
-        (λ f k. get_or-set_other list field f m 0 (λ q. omega arith) ∙ w f k)
-        (get_or-set_same list field m 0 (omega arith) ∙ e)
-
     pub written_all : field ≡ fields → list ≡ maxima t
     written_all e =
         ext_get_or 0 list (maxima t) (long ∙ sym maxima_length) (λ f l. w f (omega arith) ∙ sym (maxima_each f (omega arith)))

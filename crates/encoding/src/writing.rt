@@ -10,8 +10,9 @@ fn put_word(table: &mut [u8], p: usize, number: u16)
     requires { p + 1 < length table.old }
     ensures { table.new ≡ with_word table.old p number }
 {
-    table[p] = (number / 256) as u8;
-    table[p + 1] = (number % 256) as u8;
+    let [high, low] = number.to_be_bytes();
+    table[p] = high;
+    table[p + 1] = low;
 }
 
 // How many bytes stand after the first two.

@@ -5,9 +5,6 @@ use Rattle.encoding.specs.Layout.{byte, word, start, record_byte, record_word}
 use Rattle.std.proofs.Common.{arith}
 use Rattle.encoding.proofs.layout.short_span_at.Goals as goal
 
-pub record_byte-requires : goal.record_byte-requires
-record_byte-requires c = (c.requires.0, omega arith)
-
 pub returns : goal.returns
 unfolding record_byte record_word word
 returns c = let s = c in

@@ -1,10 +1,8 @@
 -- `encoding::writing::put_span` meets its contract: the record lies in the table.
-use mathlib.Core.Path.{ap, ◌∙◌}
 use mathlib.Core.List.{List}
 use Prim.Native.Nat.{ℕ, ◌+◌, ◌≤◌}
 use lib.ListN.{length}
 use Rattle.encoding.specs.Layout.{start, NodeHeld}
-use Rattle.encoding.specs.Writing.{with_word}
 use Rattle.encoding.proofs.Places.{record_least, record_there}
 use Rattle.std.proofs.Common.{arith}
 use Rattle.encoding.proofs.writing.put_span.Goals as goal
@@ -21,8 +19,3 @@ overflow_add-start c = omega (arith, c.start_of-start.ensures, held c.args.table
 
 pub put_word-requires : goal.put_word-requires
 put_word-requires c = omega (arith, c.start_of-start.ensures, held c.args.table.now c.args.i c.requires)
-
-pub returns : goal.returns
-returns c = let p = c in
-    let s = p in
-    p.put_word.ensures ∙ ap (λ k. with_word s.args.table.now (k + 1) s.args.span) s.start_of-start.ensures
