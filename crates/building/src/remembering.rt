@@ -30,11 +30,7 @@ pub(crate) fn recall_near(near: Option<Known>, nodes: Set) -> Option<usize>
     ensures { IfSome result (λ place. near ≡ Some (record { nodes = nodes; place = place })) }
 {
     let known = near?;
-    if known.nodes.same(nodes) {
-        Some(known.place)
-    } else {
-        None
-    }
+    (known.nodes == nodes).then_some(known.place)
 }
 
 // The slot of a set and a field. Any hash is correct: slots store their key.
@@ -60,11 +56,8 @@ pub(crate) fn recall(
 {
     let held = seen[slot]?;
     let place = usize::from(held.place);
-    if held.nodes.same(nodes) && usize::from(held.field) == field && place < MOST_PLACES {
-        Some(place)
-    } else {
-        None
-    }
+    let same = held.nodes == nodes && usize::from(held.field) == field;
+    (same && place < MOST_PLACES).then_some(place)
 }
 
 // Remembers the place of what was walked with a set from a field on.
