@@ -2,7 +2,7 @@
 use mathlib.Core.Path.{◌≡◌, refl, sym, ap, ◌∙◌, subst}
 use mathlib.Core.Bool.{Bool, true, false}
 use mathlib.Core.Logic.{⊎_elim}
-use mathlib.Core.List.{List, [], ◌∷◌}
+use mathlib.Core.List.{List, []}
 use Prim.Native.Nat.{ℕ, ◌+◌, ◌≤◌, ◌<◌}
 use native.Mathlib.Nat.{eq-or-lt_of_le}
 use native.Mathlib.Omega.{arith}
@@ -13,7 +13,6 @@ use lib.Seq.{get_or-set_same, get_or-set_other}
 use Rattle.answer.specs.Fields.{fields}
 use Rattle.encoding.specs.Layout.{maximum}
 use Rattle.sets.specs.Sets.{Has}
-use Rattle.sets.specs.declared.Set.{Set}
 use Rattle.applying.specs.Members.{member}
 use Rattle.applying.specs.declared.Run.{Run}
 use Rattle.applying.specs.Filled.{no_run, set_at, last_at, Runs, KeptPastMaximum, FieldFilled, ValuesFilled, SetRows, FilledBelow, Filled, KeptPastMaxima}

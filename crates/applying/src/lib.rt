@@ -104,8 +104,8 @@ pub fn fill(table: &[u8], rows: &mut [[Run; VALUES]; FIELDS])
     ensures filled { Filled table.now rows.new }
     ensures kept_past_maxima { KeptPastMaxima table.now rows.old rows.new }
 {
-    for field in 0..FIELDS {
-        fill_field(table, field, &mut rows[field]);
+    for (field, row) in rows.iter_mut().enumerate() {
+        fill_field(table, field, row);
     }
 }
 

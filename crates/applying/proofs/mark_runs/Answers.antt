@@ -5,7 +5,6 @@ use Rattle.sets.specs.Sets.{same}
 use Rattle.sets.proofs.SetNumbers.{same_equal}
 use Rattle.applying.specs.Filled.{set_at}
 use Rattle.applying.proofs.Marking.{marked_all, marked_other, marked_same}
-use Rattle.std.proofs.Common.{arith, rules}
 use Rattle.applying.proofs.mark_runs.Goals as goal
 use Rattle.applying.proofs.mark_runs.Goals.{After-eq, then-eq, else-eq}
 
