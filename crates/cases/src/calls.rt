@@ -20,6 +20,7 @@ pub(crate) enum Call {
 }
 
 impl Call {
+    // The calls' names, in the order in which they are counted.
     pub(crate) const NAMES: [&'static str; 7] = [
         "read",
         "rule",
@@ -66,7 +67,6 @@ impl Call {
     // What the library answers, and writes to what it is lent.
     pub(crate) fn ask(
         self,
-        alloc: Global,
         given: &Given,
         changes: &str,
         lent: &mut [u16],
@@ -79,7 +79,7 @@ impl Call {
                 standard::rule_standard(&given.table(changes)?, request, lent)
             }
             Call::Build => building::build(&given.table(changes)?, lent),
-            Call::Attach => attach(alloc, &given.table(changes)?, &given.expansion()?, lent)?,
+            Call::Attach => attach(given, &given.table(changes)?, lent)?,
             Call::LookUp(request) => lookup::look_up(&given.diagram(changes)?, request, lent),
         })
     }
@@ -125,12 +125,12 @@ fn lent_list(alloc: Global, text: &str) -> Result<Vec<u16>, Fault> {
 }
 
 // The expansion is attached to a base. The numbers of what is lent are lent as bytes.
-fn attach(alloc: Global, base: &[u8], expansion: &[u8], lent: &mut [u16]) -> Result<Answer, Fault> {
+fn attach(given: &Given, base: &[u8], lent: &mut [u16]) -> Result<Answer, Fault> {
     if lent.len() > BYTES {
         return Err(Fault::NotUnderstood);
     }
-    let mut bytes = to_bytes(alloc, lent)?;
-    let answer = attaching::attach(base, expansion, &mut bytes);
+    let mut bytes = to_bytes(given.alloc, lent)?;
+    let answer = attaching::attach(base, &given.expansion()?, &mut bytes);
     for (number, byte) in lent.iter_mut().zip(bytes.iter()) {
         *number = u16::from(*byte);
     }

@@ -14,7 +14,7 @@ const CHANGES: usize = 128;
 // The numbers of the last line of each kind.
 #[derive(Drop)]
 pub(crate) struct Given {
-    alloc: Global,
+    pub(crate) alloc: Global,
     table: Option<Vec<u16>>,
     expansion: Option<Vec<u16>>,
     diagram: Option<Vec<u16>>,
@@ -86,9 +86,10 @@ fn changed(
     let line = line.as_ref().ok_or(Fault::NotUnderstood)?;
     let resized = changes.strip_prefix(" length");
     let said = decimal(alloc, resized.unwrap_or(changes))?;
-    let (size, pairs) = match resized {
-        Some(_) => first_apart(&said)?,
-        None => (line.len(), said.as_slice()),
+    let (size, pairs) = match (resized, said.as_slice()) {
+        (None, pairs) => (line.len(), pairs),
+        (Some(_), [length, pairs @ ..]) => (usize::from(*length), pairs),
+        (Some(_), []) => return Err(Fault::NotUnderstood),
     };
     if line.len() > room || size > room || said.len() > CHANGES {
         return Err(Fault::NotUnderstood);
@@ -108,9 +109,4 @@ fn changed(
             .ok_or(Fault::NotUnderstood)? = value;
     }
     Ok((list, size))
-}
-
-fn first_apart(list: &[u16]) -> Result<(usize, &[u16]), Fault> {
-    let (first, others) = list.split_first().ok_or(Fault::NotUnderstood)?;
-    Ok((usize::from(*first), others))
 }

@@ -16,24 +16,18 @@ pub(crate) fn run(
     let mut given = Given::new(alloc);
     for line in script.split(|byte| *byte == b'\n') {
         if !line.is_empty() && !line.starts_with(b"#") {
-            take(rt, alloc, line, &mut given, tally)?;
+            take(rt, line, &mut given, tally)?;
         }
     }
     Ok(())
 }
 
 // A case, which has its name before a colon, or what the cases after it start from.
-fn take(
-    rt: &impl Print,
-    alloc: Global,
-    line: &[u8],
-    given: &mut Given,
-    tally: &mut Tally,
-) -> io::Result<()> {
+fn take(rt: &impl Print, line: &[u8], given: &mut Given, tally: &mut Tally) -> io::Result<()> {
     let mut parts = line.splitn(2, |byte| *byte == b':');
     let name = parts.next().unwrap_or(line);
     let taken = match parts.next() {
-        Some(case) => outcome(alloc, case, given).map(Some),
+        Some(case) => outcome(case, given).map(Some),
         None => given.take(line).map(|()| None),
     };
     match taken {
@@ -45,28 +39,34 @@ fn take(
 }
 
 // A case without its name, `CALL; CHANGES; ANSWER; WRITTEN`: its call is made.
-fn outcome(alloc: Global, case: &[u8], given: &Given) -> Result<Outcome, Fault> {
+fn outcome(case: &[u8], given: &Given) -> Result<Outcome, Fault> {
+    let alloc = given.alloc;
     let parts: Vec<&str> = text(case)?.split(';').map(ended).collect(alloc)?;
     let [call, changes, answer, written] = *parts.as_slice() else {
         return Err(Fault::NotUnderstood);
     };
     let (call, places) = Call::parse(alloc, call)?;
-    let answer_due = exactly(decimal(alloc, answer)?)?;
-    let mut due = decimal(alloc, written)?;
-    if places > PLACES || due.len() > places {
+    let due = exactly(decimal(alloc, answer)?)?;
+    let mut written = decimal(alloc, written)?;
+    if places > PLACES || written.len() > places {
         return Err(Fault::NotUnderstood);
     }
-    due.resize(places, 0)?;
+    written.resize(places, 0)?;
     // What is lent holds a mark at each place, another number than 0 and than the one that is due there.
-    let mut lent: Vec<u16> = due.iter().map(|number| *number % 255 + 1).collect(alloc)?;
-    let name = call.name();
-    let answer = call.ask(alloc, given, changes, &mut lent)?;
-    let place = lent.iter().zip(due.iter()).position(|(is, due)| is != due);
+    let mut lent: Vec<u16> = written
+        .iter()
+        .map(|number| *number % 255 + 1)
+        .collect(alloc)?;
+    let answer = call.ask(given, changes, &mut lent)?;
+    let differs = lent
+        .iter()
+        .zip(written.iter())
+        .position(|(is, due)| is != due);
     Ok(Outcome {
-        call: name,
-        due: answer_due.map(usize::from),
+        call: call.name(),
+        due: due.map(usize::from),
         answer: fields(answer),
-        place: place.unwrap_or(places),
+        place: differs.unwrap_or(places),
         places,
     })
 }
