@@ -12,7 +12,7 @@ ghost use Rattle.table.specs.Reading.{header_refusals, refusals_after_kind, node
 use answer::{Answer, FIELDS};
 use combining::Kind;
 use encoding::layout::{
-    LEVELS, NODES, VERSION, card_at, count_at, header_size, high_at, kind_at, low_at, maximum_at,
+    LEVELS, NODES, Range, VERSION, card_at, count_at, header_size, kind_at, maximum_at, range_at,
     span_at, start_of, word_at,
 };
 
@@ -103,8 +103,7 @@ fn range_fault(table: &[u8], i: usize, field: usize) -> bool
     ensures { result ≡ range_fault table.now i field }
 {
     let maximum = maximum_at(table, field);
-    let low = low_at(table, i, field);
-    let high = high_at(table, i, field);
+    let Range { low, high } = range_at(table, i, field);
     if maximum < low { true } else { maximum < high }
 }
 

@@ -8,9 +8,11 @@ pub maximum_at-maximum-requires : goal.maximum_at-maximum-requires
 maximum_at-maximum-requires c = (node_header c.args.table.now c.args.i c.requires.node_held, c.requires.field_lt_fields)
 
 pub returns-then-maximum-low : goal.returns-then-maximum-low
-returns-then-maximum-low c = range_low c.args.table.now c.args.i c.args.field c.maximum_at-maximum.result c.low_at-low.result c.maximum_at-maximum.ensures c.low_at-low.ensures
+returns-then-maximum-low c =
+    range_low c.args.table.now c.args.i c.args.field c.maximum_at-maximum.result c.range_at-low.result.low c.maximum_at-maximum.ensures c.range_at-low.ensures.0
     (omega (arith, c.if-maximum-low.true))
 
 pub returns-else-maximum-low : goal.returns-else-maximum-low
-returns-else-maximum-low c = range_high c.args.table.now c.args.i c.args.field c.maximum_at-maximum.result c.low_at-low.result c.maximum_at-maximum.ensures c.low_at-low.ensures
-    c.high_at-high.result c.high_at-high.ensures (omega (arith, c.if-maximum-low.false))
+returns-else-maximum-low c =
+    range_high c.args.table.now c.args.i c.args.field c.maximum_at-maximum.result c.range_at-low.result.low c.maximum_at-maximum.ensures c.range_at-low.ensures.0
+    c.range_at-low.result.high c.range_at-low.ensures.1 (omega (arith, c.if-maximum-low.false))
