@@ -6,11 +6,13 @@ use mathlib.Core.List.{List, ◌++◌}
 use Prim.Native.Nat.{ℕ, zero, suc, ◌+◌, ◌-◌, ◌≤◌, ◌<◌}
 use native.Mathlib.Nat.{eq-or-lt_of_le}
 use native.Mathlib.Omega.{arith}
-use borrow.Author.Tests.{lt-ltb, le-ltb, ltb-false}
+use borrow.Author.Tests.{lt-ltb, le-ltb, ltb-true, ltb-false}
 use lib.Dec.{ltb}
+use Rattle.std.specs.Prelude.{Some, None}
+use Rattle.std.proofs.lemmas.Option.{cond_some, none-some}
 use Rattle.answer.specs.Fields.{fields}
 use Rattle.answer.specs.Answers.{zeros}
-use Rattle.answer.specs.Requests.{value, Within, value_fault, first_from, field_fault}
+use Rattle.answer.specs.Requests.{value, Within, value_fault, first_from, field_fault, one_of_fields}
 
 module _ (p : ℕ → Bool) where
   -- one number more, by whether it passes
@@ -116,3 +118,21 @@ module _ (maximum : ℕ → ℕ) (q : List ℕ) (from : ℕ) where
 
   pub no_field : (f : ℕ) → f ≡ fields → Searched f → fields ≡ field_fault maximum q from
   no_field f e s = sym (s ∙ search_ends (value_fault maximum q) f fields (omega arith) ∙ e)
+
+-- the field of a number, where there is one
+pub one_found : (f n : ℕ) → f < fields → f ≡ n → Some f ≡ one_of_fields n
+one_found f n l e = ap (λ b. cond b (Some f) None) (sym (lt-ltb f fields l)) ∙ ap one_of_fields e
+
+pub none_found : (n : ℕ) → fields ≤ n → None ≡ one_of_fields n
+none_found n l = ap (λ b. cond b (Some n) None) (sym (le-ltb n fields l))
+
+-- a field that was found is that number, and one of the fields
+pub found_one : (f n : ℕ) → Some f ≡ one_of_fields n → (f ≡ n) × (f < fields)
+found_one f n e = let h = cond_some (ltb n fields) n f (sym e) in (sym h.1, omega (arith, ltb-true n fields h.0, h.1))
+
+pub found_none : (n : ℕ) → None ≡ one_of_fields n → fields ≤ n
+found_none n e = by (ltb n fields) refl e
+  where
+    by : (b : Bool) → ltb n fields ≡ b → None ≡ cond b (Some n) None → fields ≤ n
+    by true h e = absurd (none-some n e)
+    by false h e = ltb-false n fields h

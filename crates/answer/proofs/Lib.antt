@@ -6,5 +6,4 @@ pub mod RequestsInOrder
 pub mod Settling
 pub mod RequestRefusals
 pub mod Stored
-pub mod Cleared
 pub mod SameRuling

@@ -1,6 +1,6 @@
 -- What is asked, and refusal 9, as document 01 words them: shared by every way of ruling.
 -- Assumes nothing: these are definitions.
-use Rattle.std.specs.Prelude.{Bool, cond, List, ℕ, zero, suc, ◌+◌, ◌-◌, ◌≤◌, ◌<◌, ltb, get_or}
+use Rattle.std.specs.Prelude.{Bool, cond, List, ℕ, Option, Some, None, zero, suc, ◌+◌, ◌-◌, ◌≤◌, ◌<◌, ltb, get_or}
 use Rattle.answer.specs.Fields.{fields}
 
 -- "A question is one value for each field": the value of field f
@@ -27,3 +27,7 @@ first_from p i (suc k) = cond (p i) i (first_from p (i + 1) k)
 -- 9: "value over its maximum; first such field", of the fields from a given one on; the number of fields where there is none
 unfoldable pub field_fault : (ℕ → ℕ) → List ℕ → ℕ → ℕ
 field_fault maximum q from = first_from (value_fault maximum q) from (fields - from)
+
+-- the field of that number, where there is one
+abbrev pub one_of_fields : ℕ → Option ℕ
+one_of_fields f = cond (ltb f fields) (Some f) None

@@ -5,7 +5,11 @@ ghost use Rattle.std.specs.Prelude.{◌≡◌, ◌++◌, ◌+◌, ◌≤◌, len
 ghost use Rattle.std.proofs.lemmas.List.Edits.{sets};
 ghost use Rattle.answer.specs.Fields.{fields};
 ghost use Rattle.answer.specs.Answers.{refused, blank, counted, ruled, zeros};
-ghost use Rattle.answer.specs.Requests.{value, field_fault};
+ghost use Rattle.answer.specs.Requests.{value, field_fault, one_of_fields};
+
+pub mod refusal;
+
+pub use refusal::{Refusal, Refused};
 
 // How many fields a request has: subject, resource, action.
 pub const FIELDS: usize = 3;
@@ -81,68 +85,30 @@ pub struct JointRequest {
     pub others: [u16; OTHERS],
 }
 
-// Refusal 9: the first field, from a given one on, whose value is over its maximum, or FIELDS. The values are those of the fields
-// from that one on.
-pub fn field_fault(maxima: &[u16], values: &[u16], from: usize) -> usize
+// Refusal 9: the first field, from a given one on, whose value is over its maximum. The values are those of the fields from that one on.
+pub fn field_fault(maxima: &[u16], values: &[u16], from: usize) -> Option<usize>
     requires { (fields ≤ length maxima.now) × (from + length values.now ≡ fields) }
-    ensures { result ≡ field_fault (value maxima.now) (zeros from ++ values.now) from }
+    ensures { result ≡ one_of_fields (field_fault (value maxima.now) (zeros from ++ values.now) from) }
 {
-    let mut field = from;
-    while field < FIELDS {
+    for field in from..FIELDS {
         if maxima[field] < values[field - from] {
-            return field;
+            return Some(field);
         }
-        field += 1;
     }
-    FIELDS
+    None
 }
 
 // Zeros throughout a lent list or a lent diagram.
 pub fn clear(list: &mut [u16])
     ensures { list.new ≡ zeros (length list.old) }
 {
-    let n = list.len();
-    let mut place = 0;
-    while place < n {
-        list[place] = 0;
-        place += 1;
-    }
+    list.fill(0);
 }
 
-// Numbers to the start of a list that is long enough.
-pub fn store(numbers: &[u16], list: &mut [u16])
-    requires { length numbers.now ≤ length list.old }
-    ensures { list.new ≡ sets list.old 0 numbers.now }
+// Items into a list that has room for them from a place on.
+pub fn store<T: Copy>(items: &[T], list: &mut [T], at: usize)
+    requires { at + length items.now ≤ length list.old }
+    ensures { list.new ≡ sets list.old at items.now }
 {
-    let count = numbers.len();
-    let mut i = 0;
-    while i < count {
-        list[i] = numbers[i];
-        i += 1;
-    }
-}
-
-// Zeros throughout a lent table.
-pub fn clear_bytes(table: &mut [u8])
-    ensures { table.new ≡ zeros (length table.old) }
-{
-    let n = table.len();
-    let mut byte = 0;
-    while byte < n {
-        table[byte] = 0;
-        byte += 1;
-    }
-}
-
-// Bytes into a table that has room for them from a place on.
-pub fn store_bytes(bytes: &[u8], table: &mut [u8], at: usize)
-    requires { at + length bytes.now ≤ length table.old }
-    ensures { table.new ≡ sets table.old at bytes.now }
-{
-    let count = bytes.len();
-    let mut i = 0;
-    while i < count {
-        table[at + i] = bytes[i];
-        i += 1;
-    }
+    list[at..at + items.len()].copy_from_slice(items);
 }

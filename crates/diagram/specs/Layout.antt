@@ -1,6 +1,6 @@
 -- What stands in the places of a diagram over k fields, as document 01 words it under "The diagram".
 -- Assumes nothing: these are definitions.
-use Rattle.std.specs.Prelude.{cond, List, ℕ, ◌+◌, ◌*◌, eqb, get_or}
+use Rattle.std.specs.Prelude.{cond, List, [], ◌∷◌, ℕ, ◌+◌, ◌*◌, eqb, get_or}
 
 -- "Places 0 to 4 hold: places used, place of the root, the three maxima. Entries follow from place 5": the first entry's place
 abbrev pub header : ℕ → ℕ
@@ -53,6 +53,10 @@ last_at d p j = number_at d (p + 2 + 2 * j)
 -- "and its child's place": that of the j-th
 abbrev pub child_at : List ℕ → ℕ → ℕ → ℕ
 child_at d p j = number_at d (p + 3 + 2 * j)
+
+-- "for each edge its last value and its child's place": both of the j-th
+abbrev pub edge_at : List ℕ → ℕ → ℕ → List ℕ
+edge_at d p j = last_at d p j ∷ child_at d p j ∷ []
 
 -- how many places the entry at p takes: "label: 0, decision, number of cards, the cards", or "node: level [..], number of edges, then for each edge its last value and its child's place"
 abbrev pub size_at : List ℕ → ℕ → ℕ

@@ -11,7 +11,7 @@ use borrow.Author.Count.{below_more}
 use borrow.Author.Tests.{lt-ltb, le-ltb, le-leb, lt-leb, ltb-true}
 use lib.Dec.{ltb, leb}
 use lib.ListN.{length, get_or, take, drop, set, length-append, length-replicate, length-set, drop_of_length-le}
-use lib.Seq.{get_or-set_same, get_or-set_other, set_out, drop-cons}
+use lib.Seq.{get_or-set_same, get_or-set_other, drop-cons}
 use Rattle.answer.specs.Fields.{fields}
 use Rattle.answer.specs.Answers.{zeros}
 use Rattle.answer.proofs.Tests.{lt_or_ge, both}
@@ -22,9 +22,12 @@ use Rattle.diagram.specs.Starts.{size_two}
 use Rattle.diagram.proofs.StandsIn.{Stands, stands_taken}
 use Rattle.diagram.proofs.EntryPlaces.{EntryAt, entry_ends, entry_stands, Begins, begins_itself}
 use Rattle.diagram.proofs.EntriesGrow.{same_equal, same_itself, kept, enter_there, by_entering, enter_entry, enter_again}
+use Rattle.std.specs.Prelude.{Some, None}
+use Rattle.entering.specs.declared.finding.Found.{Found}
+use Rattle.entering.specs.declared.finding.Found.TheVariants.{Equal, Absent}
 use Rattle.entering.specs.Index.{slots, tries, hashed, slot_of, place_in, StandsAt, IsNew, Others, Indexed, equal_at, Finding}
 use Rattle.entering.specs.Laid.{IsEntry, AllEntries, Laid}
-use Rattle.entering.proofs.Seeking.{entry_size, Found}
+use Rattle.entering.proofs.Seeking.{entry_size, IsFoundAt}
 use Rattle.entering.proofs.LaidOut.{follows}
 
 -- the number of an entry is made from its numbers one after another
@@ -180,10 +183,8 @@ module _ (es : Entries) (e index : List ℕ) (end : ℕ) (x : Indexed es index) 
           (lt_or_ge j k)
 
   -- all slots tried for the new entry hold others: it is not noted
-  not_noted : Others es index e tries → Indexed more (set index slots end)
-  not_noted o =
-      subst (Indexed more) (sym (set_out index slots end (omega (arith, x.sized))))
-      (indexed_more index (λ i n. refl) (λ i. inr refl) (λ j t others z. (o j t).0 z) x.sized)
+  not_noted : Others es index e tries → Indexed more index
+  not_noted o = indexed_more index (λ i n. refl) (λ i. inr refl) (λ j t others z. (o j t).0 z) x.sized
 
 -- whether what starts at place p of d is equal to e, on each way out
 module _ (d : List ℕ) (end p : ℕ) (e : List ℕ) where
@@ -243,22 +244,21 @@ module _ (d : List ℕ) (end : ℕ) (index e : List ℕ) where
   abbrev pub Tried : ℕ → Type 0
   Tried j = (es : Entries) → Laid es d index end → Others es index e j
 
-  -- where the entry stands, and where it may be noted
-  abbrev pub Finds : ℕ → ℕ → Type 0
-  Finds place s = (es : Entries) → Laid es d index end → Finding es index end e place s
+  -- what the search gives
+  abbrev pub Finds : Found → Type 0
+  Finds found = (es : Entries) → Laid es d index end → Finding es index end e found
 
   pub tried_none : Tried 0
   tried_none es l i h = absurd (omega arith)
 
-  -- all slots were tried, and then all entries compared
-  pub compared_finds : Tried tries → (place : ℕ) → Found d end e place → Finds place slots
-  compared_finds tried place f es l = record {
-    is = f es index l;
-    noted =
-        λ h.
-        let w = follows es d index end e l (omega (arith, f es index l)) in
-        not_noted es e index end l.indexed (λ i. record { entries = w.0 i; place = (w.1 ∙ sym l.ends) i }) l.ends (tried es l);
-  }
+  -- all slots were tried, and all entries compared: none is equal
+  pub none_finds : Tried tries → IsFoundAt d end e end → Finds (Absent None)
+  none_finds tried f es l =
+      let w = follows es d index end e l (omega (arith, f es index l)) in
+      record {
+        is = f es index l;
+        noted = not_noted es e index end l.indexed (λ i. record { entries = w.0 i; place = (w.1 ∙ sym l.ends) i }) l.ends (tried es l);
+      }
 
   -- one more slot is tried, and the place that it holds is read
   module _ (hash j place : ℕ) (is : hash ≡ hashed 0 e) (tried : Tried j) (at : place ≡ place_in index ((hash + j) % slots)) where
@@ -269,26 +269,22 @@ module _ (d : List ℕ) (end : ℕ) (index e : List ℕ) where
     held = at ∙ ap (place_in index) here
 
     -- the slot is empty
-    pub empty_finds : j < tries → place ≡ 0 → Finds end ((hash + j) % slots)
+    pub empty_finds : j < tries → place ≡ 0 → Finds (Absent (Some ((hash + j) % slots)))
     empty_finds t empty es l =
         let new = l.indexed.covers e j t (tried es l) (sym held ∙ empty) in
         record {
           is = sym (ap (λ (r : Entered). r.place) new ∙ l.ends);
           noted =
-              λ h.
               noted_in_slot es e index end l.indexed new l.ends (omega (arith, l.ends)) ((hash + j) % slots) j t here (tried es l) (sym at ∙ empty);
         }
 
     -- the slot holds the place of an equal entry
-    pub equal_finds : (place ≡ 0 → ⊥) → true ≡ equal_at d end place e → Finds place slots
+    pub equal_finds : (place ≡ 0 → ⊥) → true ≡ equal_at d end place e → Finds (Equal place)
     equal_finds n t es l =
         let a = l.indexed.points (slot_of e j) (λ z. n (held ∙ z)) in
         let b : StandsAt es a.0 place = subst (StandsAt es a.0) (sym held) a.1 in
         let q : a.0 ≡ e = same_equal a.0 e (sym (t ∙ compared es d index end l a.0 place b e)) in
-        record {
-          is = sym (ap (λ (r : Entered). r.place) (subst (λ y. StandsAt es y place) q b));
-          noted = λ h. absurd (omega (arith, equal_before_end d end place e t));
-        }
+        sym (ap (λ (r : Entered). r.place) (subst (λ y. StandsAt es y place) q b))
 
     -- the slot holds the place of another entry
     pub tried_more : (place ≡ 0 → ⊥) → false ≡ equal_at d end place e → Tried (j + 1)

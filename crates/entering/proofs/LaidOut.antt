@@ -1,11 +1,10 @@
 -- An entry that is entered stands already, or follows the last one: where it is to stand, whether there is room, and what is left once it is written.
 use mathlib.Core.Path.{◌≡◌, refl, sym, ap, ◌∙◌, subst}
-use mathlib.Core.Bool.{Bool, true, false, false≢true}
 use mathlib.Core.Logic.{◌⊎◌, inl, inr, ⊎_elim}
 use mathlib.Core.List.{List, [], ◌∷◌, ◌++◌, append_assoc, append-nil}
 use Prim.Native.Nat.{ℕ, ◌+◌, ◌-◌, ◌≤◌, ◌<◌, min}
 use native.Mathlib.Omega.{arith}
-use lib.ListN.{length, take, drop, set, length-append, length-replicate, replicate-append-replicate}
+use lib.ListN.{length, take, drop, length-append, length-replicate, replicate-append-replicate}
 use lib.Seq.{sets, length-sets, take_at, drop_at}
 use borrow.Rule.Slice.PartMut.{mid_of, put_mid}
 use Rattle.answer.specs.Fields.{fields}
@@ -16,9 +15,12 @@ use Rattle.diagram.specs.Entries.{terminal, node}
 use Rattle.diagram.specs.Walk.{Entries, joined, Entered, enter}
 use Rattle.diagram.proofs.EntryPlaces.{joined_append}
 use Rattle.diagram.proofs.EntriesGrow.{by_entering}
-use Rattle.entering.specs.Index.{slots, Indexed, Finding}
-use Rattle.entering.specs.Laid.{IsEntry, AllEntries, Laid, NoRoom, Bounded, Settled, Settling, Standing}
-use Rattle.entering.proofs.NumbersWritten.{rest_lent, rest_back, rest_kept, rest_length}
+use Rattle.std.specs.Prelude.{Option, Some}
+use Rattle.entering.specs.declared.finding.Step.{Step}
+use Rattle.entering.specs.declared.finding.Found.TheVariants.{Equal}
+use Rattle.entering.specs.Index.{Indexed, noted, NoneFound, Finding}
+use Rattle.entering.specs.Laid.{IsEntry, AllEntries, Laid, NoRoom, Within, NewAtEnd, Settled, Settling, Stood, Standing}
+use Rattle.entering.proofs.NumbersWritten.{rest_lent, rest_back, rest_kept}
 
 -- a cleared diagram has no entries
 pub none_laid : (d index : List ℕ) (n : ℕ) → d ≡ zeros n → header fields ≤ n → Indexed [] index → Laid [] d index (header fields)
@@ -81,29 +83,29 @@ module _ (es : Entries) (d index : List ℕ) (end : ℕ) (e : List ℕ) (l : Lai
   longer_entered : end ≤ entered.place → header fields + length (joined entered.entries) ≡ end + length e
   longer_entered h = ap (λ x. header fields + length (joined x)) (follows h).0 ∙ longer
 
-  module _ (place s : ℕ) (f : Finding es index end e place s) where
-    -- an equal entry was found
-    pub found_settles : place < end → Settled entered index end place
-    found_settles h =
-        let stays : entered.entries ≡ es = was_there (omega (arith, f.is)) in
-        record {
-          ends = ap (λ x. header fields + length (joined x)) stays ∙ l.ends;
-          at = f.is;
-          indexed = subst (λ x. Indexed x index) (sym stays) l.indexed;
-        }
+  -- an equal entry was found
+  pub found_settles : {place : ℕ} → Finding es index end e (Equal place) → place < end → Settled entered index end place
+  found_settles f h =
+      let stays : entered.entries ≡ es = was_there (omega (arith, f)) in
+      record {
+        ends = ap (λ x. header fields + length (joined x)) stays ∙ l.ends;
+        at = f;
+        indexed = subst (λ x. Indexed x index) (sym stays) l.indexed;
+      }
 
-    -- no equal entry was found, and there is no room
-    pub none_fits : (n : ℕ) → end ≤ place → min most_places n < end + length e → NoRoom entered n
-    none_fits n h m = omega (arith, longer_entered (omega (arith, f.is)))
+  -- no equal entry was found
+  module _ {slot : Option ℕ} (f : NoneFound es index end e slot) where
+    -- there is no room
+    pub none_fits : (n : ℕ) → min most_places n < end + length e → NoRoom entered n
+    none_fits n m = omega (arith, longer_entered (omega (arith, f.is)))
 
-    -- no equal entry was found, and there is room: the entry is noted
-    pub end_settles : end ≤ place → (after : List ℕ) → (length index ≡ slots → after ≡ set index s end) → Settled entered after (end + length e) end
-    end_settles h after w =
-        let new = follows (omega (arith, f.is)) in
+    -- there is room: the entry is noted
+    pub end_settles : {after : List ℕ} → after ≡ noted slot index end → Settled entered after (end + length e) end
+    end_settles w =
         record {
           ends = longer_entered (omega (arith, f.is));
-          at = sym new.1;
-          indexed = rw (new.0, w l.indexed.sized) (f.noted h);
+          at = f.is;
+          indexed = rw ((follows (omega (arith, f.is))).0, w) f.noted;
         }
 
   -- the places before the end, and those after it
@@ -155,68 +157,54 @@ module _ (es : Entries) (d index : List ℕ) (end : ℕ) (e : List ℕ) (l : Lai
     }
 
 -- what is left in d once the entry e, which was looked for as the part of a slice, is written where it is to stand
-module _ (es : Entries) (d index : List ℕ) (end : ℕ) (e : List ℕ) (l : Laid es d index end) (part : List ℕ) (same : part ≡ e) (after : List ℕ) (full : Bool) (next place : ℕ) (s : Settling (enter (header fields) es part) (length d) after full next place) where
-  abbrev Leaves : List ℕ → Type 0
-  Leaves now = Standing (enter (header fields) es e) (length d) now after full next place
+module _ (es : Entries) (d index : List ℕ) (end : ℕ) (e : List ℕ) (l : Laid es d index end) (part : List ℕ) (same : part ≡ e) (after : List ℕ) (next place : ℕ) (s : Settled (enter (header fields) es part) after next place) where
+  settled : Settled (enter (header fields) es e) after next place
+  settled = subst (λ x. Settled (enter (header fields) es x) after next place) same s
 
-  by_settled : (now : List ℕ) → (Settled (enter (header fields) es e) after next place → Laid (enter (header fields) es e).entries now after next) → Leaves now
-  by_settled now f = go full (subst (λ x. Settling (enter (header fields) es x) (length d) after full next place) same s)
-    where
-      go : (b : Bool) → Settling (enter (header fields) es e) (length d) after b next place → Standing (enter (header fields) es e) (length d) now after b next place
-      go true s = s
-      go false s = record { laid = f s; at = s.at }
-
-  -- nothing is written where an equal entry stands, or where there is no room
-  nothing_written : place < end → Leaves d
+  -- nothing is written where an equal entry stands
+  nothing_written : place < end → Stood (enter (header fields) es e) d after next place
   nothing_written h =
-      by_settled d
-      (λ t.
-      let stays : (enter (header fields) es e).entries ≡ es = was_there es d index end e l (omega (arith, t.at)) in
+      let stays : (enter (header fields) es e).entries ≡ es = was_there es d index end e l (omega (arith, settled.at)) in
       record {
-        is = subst (λ x. d ≡ padded (zeros (header fields) ++ joined x) (length d)) (sym stays) l.is;
-        ends = t.ends;
-        formed = subst AllEntries (sym stays) l.formed;
-        indexed = t.indexed;
-      })
+        laid = record {
+          is = subst (λ x. d ≡ padded (zeros (header fields) ++ joined x) (length d)) (sym stays) l.is;
+          ends = settled.ends;
+          formed = subst AllEntries (sym stays) l.formed;
+          indexed = settled.indexed;
+        };
+        at = settled.at;
+      }
 
   -- a new entry is written after the last
-  one_written : IsEntry e → (place ≡ end) × (next ≡ end + length part) × (full ≡ false) → next ≤ length d →
-      (rest : List ℕ) → rest ≡ sets (mid_of end (length d - end) d) 0 e → Leaves (put_mid end (length d - end) d rest)
+  one_written : IsEntry e → (place ≡ end) × (next ≡ end + length part) → next ≤ length d →
+      (rest : List ℕ) → rest ≡ sets (mid_of end (length d - end) d) 0 e → Stood (enter (header fields) es e) (put_mid end (length d - end) d rest) after next place
   one_written i w room rest r =
       let z : next ≡ end + length e = w.1 ∙ ap (λ x. end + length x) same in
-      by_settled (put_mid end (length d - end) d rest)
-      (λ t.
-      let new : (enter (header fields) es e).entries ≡ es ++ (e ∷ []) = (follows es d index end e l (omega (arith, t.at, w.0))).0 in
-      rw (new, z) (laid_more es d index end e l rest r (omega arith) after i (subst (λ y. Indexed y after) new t.indexed)))
+      let new : (enter (header fields) es e).entries ≡ es ++ (e ∷ []) = (follows es d index end e l (omega (arith, settled.at, w.0))).0 in
+      record {
+        laid = rw (new, z) (laid_more es d index end e l rest r (omega arith) after i (subst (λ y. Indexed y after) new settled.indexed));
+        at = settled.at;
+      }
 
 -- The entry e was looked for, as the part of a slice, among those that stand in d.
-pub record Sought (d index : List ℕ) (end : ℕ) (e after : List ℕ) (full : Bool) (next place : ℕ) : Type 0 where
+pub record Sought (d index : List ℕ) (end : ℕ) (e after : List ℕ) (step : Step) : Type 0 where
   pub entry : IsEntry e
   pub part : List ℕ
   pub same : part ≡ e
-  pub room : Bounded d index end d after full next place
-  pub new : end ≤ place → (place ≡ end) × (next ≡ end + length part) × (full ≡ false)
-  pub settles : (es : Entries) → Laid es d index end → Settling (enter (header fields) es part) (length d) after full next place
+  pub within : Within (length d) step
+  pub new : NewAtEnd end (length part) (Some step)
+  pub settles : (es : Entries) → Laid es d index end → Settling (enter (header fields) es part) (length d) after (Some step)
 
 -- Entering an entry leaves `now`, whether it is a terminal or a node.
-module _ (d index : List ℕ) (end : ℕ) (e after : List ℕ) (full : Bool) (next place : ℕ) (s : Sought d index end e after full next place) where
+module _ {d index : List ℕ} {end : ℕ} {e after : List ℕ} {step : Step} (s : Sought d index end e after step) where
   abbrev Enters : List ℕ → Type 0
-  Enters now =
-      Bounded d index end now after full next place
-      × ((es : Entries) → Laid es d index end → Standing (enter (header fields) es e) (length d) now after full next place)
+  Enters now = (es : Entries) → Laid es d index end → Standing (enter (header fields) es e) (length d) now after (Some step)
 
-  -- where an equal entry stands or there is no room, the diagram is left as it is
-  pub is_left : place < end → Enters d
-  is_left h = (s.room, λ es l. nothing_written es d index end e l s.part s.same after full next place (s.settles es l) h)
+  -- where an equal entry stands, the diagram is left as it is
+  pub is_left : step.place < end → Enters d
+  is_left h = λ es l. nothing_written es d index end e l s.part s.same after step.end step.place (s.settles es l) h
 
-  module _ (h : end ≤ place) where
-    -- the rest of the diagram has room for the entry
-    pub rest_fits : length e ≤ length (mid_of end (length d - end) d)
-    rest_fits = omega (arith, (s.new h).1, s.room.0.1, ap length s.same, rest_length d end (omega (arith, (s.new h).1, s.room.0.1)))
-
-    -- the entry is written into the rest of the diagram
-    pub is_written : (rest : List ℕ) → rest ≡ sets (mid_of end (length d - end) d) 0 e → Enters (put_mid end (length d - end) d rest)
-    is_written rest r = (
-      (s.room.0, s.room.1, λ f. absurd (false≢true (sym (s.new h).2 ∙ f))),
-      λ es l. one_written es d index end e l s.part s.same after full next place (s.settles es l) s.entry (s.new h) s.room.0.1 rest r,
-    )
+  -- else the entry is written into the rest of the diagram
+  pub is_written : end ≤ step.place → {rest : List ℕ} → rest ≡ sets (mid_of end (length d - end) d) 0 e → Enters (put_mid end (length d - end) d rest)
+  is_written h {rest} r =
+      λ es l. one_written es d index end e l s.part s.same after step.end step.place (s.settles es l) s.entry (s.new h) s.within.0.1 rest r

@@ -1,33 +1,30 @@
 -- The search for an equal entry, at one place where an entry starts after another.
 use mathlib.Core.Path.{◌≡◌, refl, sym, ap, ◌∙◌, subst}
-use mathlib.Core.Bool.{Bool, true, false}
+use mathlib.Core.Bool.{true, false, ◌&&◌}
 use mathlib.Core.Logic.{⊎_elim}
 use mathlib.Core.List.{List, [], ◌∷◌, ◌++◌, append_assoc}
 use Prim.Native.Nat.{ℕ, ◌+◌, ◌-◌, ◌<◌}
 use native.Mathlib.Omega.{arith}
 use lib.ListN.{length, take, drop, length-append, length-replicate}
 use lib.Seq.{drop_at}
+use Rattle.std.specs.Cmp.Lexicographic.{pointwise}
+use Rattle.std.specs.Prelude.{nat_eq}
 use Rattle.answer.specs.Fields.{fields}
 use Rattle.answer.specs.Answers.{zeros}
 use Rattle.diagram.specs.Layout.{header, size_at}
 use Rattle.diagram.specs.Walk.{Entries, joined, same, Entered, enter}
 use Rattle.diagram.specs.Starts.{size_two}
 use Rattle.diagram.proofs.StandsIn.{Stands, stands_later, stands_taken}
-use Rattle.diagram.proofs.EntriesGrow.{same_equal, same_itself, enter_here, enter_there}
+use Rattle.diagram.proofs.EntriesGrow.{enter_here, enter_there}
 use Rattle.diagram.proofs.GoodEntriesAreSound.{terminal_size, node_size}
 use Rattle.entering.specs.Laid.{IsEntry, AllEntries, Laid}
 
--- whether the numbers of two slices are the same
-
-pub same_yes : (x y : List ℕ) → x ≡ y → true ≡ same x y
-same_yes x y e = sym (subst (λ l. same x l ≡ true) e (same_itself x))
-
-pub same_no : (x y : List ℕ) → (x ≡ y → ⊥) → false ≡ same x y
-same_no x y h = test (same x y) refl
-  where
-    test : (b : Bool) → same x y ≡ b → false ≡ b
-    test true e = absurd (h (same_equal x y e))
-    test false e = refl
+-- what `==` tells of two slices
+pub compared_same : (x y : List ℕ) → pointwise nat_eq x y ≡ same x y
+compared_same [] [] = refl
+compared_same [] (y ∷ ys) = refl
+compared_same (x ∷ xs) [] = refl
+compared_same (x ∷ xs) (y ∷ ys) = ap (λ b. nat_eq x y && b) (compared_same xs ys)
 
 -- an entry's size is read where it stands
 pub entry_size : (d : List ℕ) (p : ℕ) (e : List ℕ) → IsEntry e → Stands d p e → size_at d p ≡ length e
@@ -66,8 +63,8 @@ module _ (d : List ℕ) (end : ℕ) (e : List ℕ) where
   seek_starts es index l = (es, record { stand = laid_stands es d index end l; ends = l.ends; formed = l.formed; found = refl })
 
   -- p is the place that entering e gives, among any entries laid
-  abbrev pub Found : ℕ → Type 0
-  Found p = (es : Entries) (index : List ℕ) → Laid es d index end → p ≡ (enter (header fields) es e).place
+  abbrev pub IsFoundAt : ℕ → Type 0
+  IsFoundAt p = (es : Entries) (index : List ℕ) → Laid es d index end → p ≡ (enter (header fields) es e).place
 
   module _ (p : ℕ) (seeks : Seeks d end e p) where
     -- the first entry left is read at p
@@ -75,7 +72,7 @@ module _ (d : List ℕ) (end : ℕ) (e : List ℕ) where
     first_size es x ys s = entry_size d p x s.formed.0 (stands_front d p x (joined ys) s.stand)
 
     -- the first entry left does not reach past the end
-    pub seek_within : p < end → end - p < size_at d p → Found end
+    pub seek_within : p < end → end - p < size_at d p → IsFoundAt end
     seek_within h k es index l = absurd (go (seeks es index l).0 (seeks es index l).1)
       where
         go : (ys : Entries) → Left es d end e p ys → ⊥
@@ -89,7 +86,7 @@ module _ (d : List ℕ) (end : ℕ) (e : List ℕ) where
           ap (λ k. take k (drop p d)) z ∙ stands_taken d p x (stands_front d p x (joined ys) s.stand)
 
       -- the first entry left is equal
-      pub seek_found : true ≡ same (take (p + size - p) (drop p d)) e → Found p
+      pub seek_found : true ≡ same (take (p + size - p) (drop p d)) e → IsFoundAt p
       seek_found t es index l = go (seeks es index l).0 (seeks es index l).1
         where
           go : (ys : Entries) → Left es d end e p ys → p ≡ (enter (header fields) es e).place
@@ -118,7 +115,7 @@ module _ (d : List ℕ) (end : ℕ) (e : List ℕ) where
               )
 
     -- no entry is left
-    pub seek_ends : p ≡ end → Found end
+    pub seek_ends : p ≡ end → IsFoundAt end
     unfolding enter
     seek_ends h es index l = go (seeks es index l).0 (seeks es index l).1
       where

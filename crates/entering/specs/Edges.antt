@@ -1,8 +1,8 @@
--- The open edges of a level, as the build keeps them: last values and child places, each in a list of their own (for the contracts inside).
+-- The open edges of a level, as the build keeps them: last values and child places, each in a list of their own, and how many there are (for the contracts inside).
 -- Assumes nothing: these are definitions.
-use Rattle.std.specs.Prelude.{List, [], ◌∷◌, ◌++◌, ◌≡◌, ℕ, zero, suc, ◌<◌, length, get_or, drop}
-use Rattle.answer.specs.Fields.{fields}
+use Rattle.std.specs.Prelude.{List, [], ◌∷◌, ◌++◌, ◌≡◌, ℕ, zero, suc, ◌<◌, get_or, drop}
 use Rattle.diagram.specs.Entries.{Edge}
+use Rattle.entering.specs.declared.edges.Edges.{Edges}
 
 -- the j-th open edge
 abbrev pub edge_in : List ℕ → List ℕ → ℕ → Edge
@@ -17,16 +17,14 @@ edges_in last child (suc n) = edges_in last child n ++ (edge_in last child n ∷
 abbrev pub KeptPast : ℕ → List ℕ → List ℕ → Type 0
 KeptPast n before after = drop n after ≡ drop n before
 
--- "256 open edges [..] for each of the three levels": a row for each level, of last values or of child places
-pub record EdgeRows (rows : List (List ℕ)) : Type 0 where
-  pub number : length rows ≡ fields
-  pub long : (f : ℕ) → f < fields → length (get_or rows f []) ≡ 256
+-- the open edges of a level: "256 open edges [..] for each of the three levels"
+abbrev pub edges_of : Edges → List Edge
+edges_of o = edges_in o.last o.child o.count
 
--- The open edges of the fields before `field` were kept; the rows from its own on are free.
-pub record EdgesKept (field : ℕ) (before after : List (List ℕ)) : Type 0 where
-  pub rows : EdgeRows after
-  pub above : (f : ℕ) → f < field → get_or after f [] ≡ get_or before f []
+-- stands for the level past the last one
+abbrev pub no_edges : Edges
+no_edges = record { last = []; child = []; count = 0 }
 
--- the first n open edges of a field
-abbrev pub edges_of : List (List ℕ) → List (List ℕ) → ℕ → ℕ → List Edge
-edges_of last child field n = edges_in (get_or last field []) (get_or child field []) n
+-- The open edges of the fields before `field` were kept; those from its own on are free.
+pub record EdgesKept (field : ℕ) (before after : List Edges) : Type 0 where
+  pub above : (f : ℕ) → f < field → get_or after f no_edges ≡ get_or before f no_edges

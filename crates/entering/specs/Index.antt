@@ -1,9 +1,11 @@
 -- The index of a diagram's entries: slots that hold places of entries, by a number made from an entry's own (for the contracts inside).
 -- Assumes nothing: these are definitions.
-use Rattle.std.specs.Prelude.{Bool, ◌&&◌, List, [], ◌∷◌, ◌++◌, ◌≡◌, ℕ, ◌+◌, ◌-◌, ◌*◌, ◌%◌, ◌≤◌, ◌<◌, ltb, leb, length, get_or, take, drop, set}
+use Rattle.std.specs.Prelude.{Bool, ◌&&◌, List, [], ◌∷◌, ◌++◌, ◌≡◌, ℕ, ◌+◌, ◌-◌, ◌*◌, ◌%◌, ◌<◌, ltb, leb, length, get_or, take, drop, set, Option, Some, None, IfSome}
 use Rattle.answer.specs.Fields.{fields}
 use Rattle.diagram.specs.Layout.{header, size_at}
 use Rattle.diagram.specs.Walk.{Entries, joined, same, enter}
+use Rattle.entering.specs.declared.finding.Found.{Found}
+use Rattle.entering.specs.declared.finding.Found.TheVariants.{Equal, Absent}
 
 -- how many slots there are, and how many of them are tried for an entry
 abbrev pub slots : ℕ
@@ -50,7 +52,22 @@ pub record Indexed (es : Entries) (index : List ℕ) : Type 0 where
 abbrev pub equal_at : List ℕ → ℕ → ℕ → List ℕ → Bool
 equal_at d end p e = ltb p end && (leb (size_at d p) (end - p) && same (take (size_at d p) (drop p d)) e)
 
--- an equal entry was found at `place`; where that is the end, the entry may be noted in slot s
-pub record Finding (es : Entries) (index : List ℕ) (end : ℕ) (e : List ℕ) (place s : ℕ) : Type 0 where
-  pub is : place ≡ (enter (header fields) es e).place
-  pub noted : end ≤ place → Indexed (es ++ (e ∷ [])) (set index s end)
+-- the index once a place is noted in a slot, where there is one
+abbrev pub noted : Option ℕ → List ℕ → ℕ → List ℕ
+noted None index place = index
+noted (Some s) index place = set index s place
+
+-- an entry found stands before the end, and a slot is one of the index
+abbrev pub FoundWithin : ℕ → Found → Type 0
+FoundWithin end (Equal place) = place < end
+FoundWithin end (Absent slot) = IfSome slot (λ s. s < slots)
+
+-- no entry is equal to e: it is to stand at the end, and may be noted in the slot
+pub record NoneFound (es : Entries) (index : List ℕ) (end : ℕ) (e : List ℕ) (slot : Option ℕ) : Type 0 where
+  pub is : end ≡ (enter (header fields) es e).place
+  pub noted : Indexed (es ++ (e ∷ [])) (noted slot index end)
+
+-- an equal entry was found at its place, or there is none
+abbrev pub Finding : Entries → List ℕ → ℕ → List ℕ → Found → Type 0
+Finding es index end e (Equal place) = place ≡ (enter (header fields) es e).place
+Finding es index end e (Absent slot) = NoneFound es index end e slot

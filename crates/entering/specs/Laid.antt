@@ -1,6 +1,6 @@
 -- A lent diagram while it is built, with the index of its entries, and what entering one more entry leaves (for the contracts inside).
 -- Assumes nothing: these are definitions.
-use Rattle.std.specs.Prelude.{Bool, true, false, List, [], ◌∷◌, ◌++◌, ◌⊎◌, ◌≡◌, ℕ, ◌+◌, ◌≤◌, ◌<◌, min, length}
+use Rattle.std.specs.Prelude.{List, [], ◌∷◌, ◌++◌, ◌⊎◌, ◌≡◌, ℕ, ◌+◌, ◌≤◌, ◌<◌, min, length, Option, Some, None}
 use Rattle.answer.specs.Fields.{fields}
 use Rattle.answer.specs.Answers.{zeros, padded}
 use Rattle.answer.specs.Rulings.{Ruling}
@@ -8,6 +8,7 @@ use Rattle.diagram.specs.Layout.{header, most_places}
 use Rattle.diagram.specs.Entries.{terminal, Edge, node}
 use Rattle.diagram.specs.Walk.{Entries, joined, Entered}
 use Rattle.entering.specs.Index.{Indexed}
+use Rattle.entering.specs.declared.finding.Step.{Step}
 
 -- the numbers of a terminal or of a node
 abbrev pub IsEntry : List ℕ → Type 0
@@ -34,17 +35,24 @@ Room n end = (header fields ≤ end) × (end ≤ n) × (end ≤ most_places)
 abbrev pub NoRoom : Entered → ℕ → Type 0
 NoRoom x n = min most_places n < header fields + length (joined x.entries)
 
--- Nothing is entered: the diagram, the index and the end are left as they were, and the place is 0.
-pub record Untouched (d index : List ℕ) (end : ℕ) (d' index' : List ℕ) (end' place : ℕ) : Type 0 where
+-- Nothing is entered: the diagram and the index are left as they were.
+pub record Untouched (d index d' index' : List ℕ) : Type 0 where
   pub diagram : d' ≡ d
   pub slots : index' ≡ index
-  pub ends : end' ≡ end
-  pub nowhere : place ≡ 0
 
--- What entering leaves whatever the diagram holds: its end and its place are free in these bounds, and where there is no room nothing is entered.
-abbrev pub Bounded : List ℕ → List ℕ → ℕ → List ℕ → List ℕ → Bool → ℕ → ℕ → Type 0
-Bounded d index end d' index' full end' place =
-    Room (length d) end' × (place < most_places) × (full ≡ true → Untouched d index end d' index' end' place)
+-- of n places, those before the end of a step may be taken, and its place is one of them
+abbrev pub Within : ℕ → Step → Type 0
+Within n s = Room n s.end × (s.place < most_places)
+
+-- What entering leaves whatever the diagram holds: a step within these bounds, and where there is no room nothing is entered.
+abbrev pub Bounded : List ℕ → List ℕ → List ℕ → List ℕ → Option Step → Type 0
+Bounded d index d' index' None = Untouched d index d' index'
+Bounded d index d' index' (Some s) = Within (length d) s
+
+-- an entry of so many numbers that does not stand before the end is to stand there, and the next one after it
+abbrev pub NewAtEnd : ℕ → ℕ → Option Step → Type 0
+NewAtEnd end size None = Unit {0}
+NewAtEnd end size (Some s) = end ≤ s.place → (s.place ≡ end) × (s.end ≡ end + size)
 
 -- the entries of x end at `end`, what was entered stands at `place`, and the index is right about them
 pub record Settled (x : Entered) (index : List ℕ) (end place : ℕ) : Type 0 where
@@ -53,9 +61,9 @@ pub record Settled (x : Entered) (index : List ℕ) (end place : ℕ) : Type 0 w
   pub indexed : Indexed x.entries index
 
 -- where an entry stands or is to stand, before it is written
-abbrev pub Settling : Entered → ℕ → List ℕ → Bool → ℕ → ℕ → Type 0
-Settling x n index true end place = NoRoom x n
-Settling x n index false end place = Settled x index end place
+abbrev pub Settling : Entered → ℕ → List ℕ → Option Step → Type 0
+Settling x n index None = NoRoom x n
+Settling x n index (Some s) = Settled x index s.end s.place
 
 -- the entries of x stand in d up to `end`, and what was entered at `place`
 pub record Stood (x : Entered) (d index : List ℕ) (end place : ℕ) : Type 0 where
@@ -63,6 +71,6 @@ pub record Stood (x : Entered) (d index : List ℕ) (end place : ℕ) : Type 0 w
   pub at : place ≡ x.place
 
 -- what entering an entry leaves, once it is written
-abbrev pub Standing : Entered → ℕ → List ℕ → List ℕ → Bool → ℕ → ℕ → Type 0
-Standing x n d index true end place = NoRoom x n
-Standing x n d index false end place = Stood x d index end place
+abbrev pub Standing : Entered → ℕ → List ℕ → List ℕ → Option Step → Type 0
+Standing x n d index None = NoRoom x n
+Standing x n d index (Some s) = Stood x d index s.end s.place

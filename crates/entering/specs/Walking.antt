@@ -1,11 +1,11 @@
 -- What a walk starts from and leaves in the lent diagram, whatever it walks and whatever is remembered of earlier walks (for the contracts inside).
 -- Assumes nothing: these are definitions.
-use Rattle.std.specs.Prelude.{Bool, true, false, List, ◌≡◌, ℕ, ◌<◌, get_or}
+use Rattle.std.specs.Prelude.{List, ◌≡◌, ℕ, get_or, Option, Some, None}
 use Rattle.answer.specs.Fields.{fields}
 use Rattle.answer.specs.Rulings.{Ruling}
-use Rattle.diagram.specs.Layout.{most_places}
 use Rattle.diagram.specs.Walk.{Entries, Entered, walk}
-use Rattle.entering.specs.Laid.{Laid, Room, NoRoom, Stood}
+use Rattle.entering.specs.Laid.{Laid, Within, NoRoom, Stood}
+use Rattle.entering.specs.declared.finding.Step.{Step}
 
 -- among the entries es the walk over the maxima ms adds nothing, and what it gives stands at place p
 abbrev pub Stays : List ℕ → (List ℕ → Ruling) → Entries → ℕ → Type 0
@@ -20,12 +20,16 @@ abbrev pub Held : (Entries → Type 0) → List ℕ → List ℕ → ℕ → Ent
 Held Right d index end es = Laid es d index end × Right es
 
 -- what a walk leaves: of n places there was room, or not, and then what stands in the diagram and the index, and what is remembered, is free
-abbrev pub Leaving : (Entries → Type 0) → Entered → ℕ → List ℕ → List ℕ → Bool → ℕ → ℕ → Type 0
-Leaving Right x n d index true end place = NoRoom x n
-Leaving Right x n d index false end place = Stood x d index end place × Right x.entries
+abbrev pub Leaving : (Entries → Type 0) → Entered → ℕ → List ℕ → List ℕ → Option Step → Type 0
+Leaving Right x n d index None = NoRoom x n
+Leaving Right x n d index (Some s) = Stood x d index s.end s.place × Right x.entries
+
+-- where there was room, the step is within n places
+abbrev pub StepWithin : ℕ → Option Step → Type 0
+StepWithin n None = Unit {0}
+StepWithin n (Some s) = Within n s
 
 -- A walk in n places, from entries as given.
-pub record Walks (walked : Entries → Entered) (Given Right : Entries → Type 0) (n : ℕ) (d index : List ℕ) (full : Bool) (end place : ℕ) : Type 0 where
-  pub room : Room n end
-  pub place_small : place < most_places
-  pub outcome : (es : Entries) → Given es → Leaving Right (walked es) n d index full end place
+pub record Walks (walked : Entries → Entered) (Given Right : Entries → Type 0) (n : ℕ) (d index : List ℕ) (step : Option Step) : Type 0 where
+  pub within : StepWithin n step
+  pub outcome : (es : Entries) → Given es → Leaving Right (walked es) n d index step

@@ -1,10 +1,10 @@
 // Where an entry stands: an equal one is found wherever it is, by the index, or by comparing at all places where entries start.
-ghost use Rattle.std.specs.Prelude.{◌≡◌, false, List, ℕ, ◌+◌, ◌≤◌, ◌<◌, length, set};
+ghost use Rattle.std.specs.Prelude.{◌≡◌, List, ℕ, ◌+◌, ◌≤◌, ◌<◌, length, IfSome, unwrap_or};
 ghost use Rattle.answer.specs.Fields.{fields};
 ghost use Rattle.diagram.specs.Layout.{header};
-ghost use Rattle.diagram.specs.Walk.{Entries, same, enter};
-ghost use Rattle.entering.specs.Index.{slots, hashed, equal_at, Finding};
-ghost use Rattle.entering.specs.Laid.{Laid, Room, Bounded, Settling};
+ghost use Rattle.diagram.specs.Walk.{Entries, enter};
+ghost use Rattle.entering.specs.Index.{slots, hashed, equal_at, noted, FoundWithin, Finding};
+ghost use Rattle.entering.specs.Laid.{Laid, Room, Bounded, Settling, NewAtEnd};
 
 use diagram::layout::size_at;
 use diagram::{HEADER, MOST_PLACES};
@@ -14,63 +14,42 @@ pub const SLOTS: usize = 8192;
 
 const TRIES: usize = 32;
 
-// What entering leaves: the place after the last entry, the place of what was entered, and whether there was no room.
+// What entering leaves: the place after the last entry, and the place of what was entered.
 #[derive(Clone, Copy)]
 pub struct Step {
     pub end: usize,
     pub place: usize,
-    pub full: bool,
 }
 
-// Whether two slices hold the same numbers.
-fn equal(a: &[u16], b: &[u16]) -> bool
-    ensures { result ≡ same a.now b.now }
-{
-    let n = a.len();
-    if n != b.len() {
-        return false;
-    }
-    let mut i = 0;
-    while i < n {
-        if a[i] != b[i] {
-            return false;
-        }
-        i += 1;
-    }
-    true
-}
-
-// The place of the first entry before `end` that is equal, by comparing with each; `end` where there is none.
-fn scan(diagram: &[u16], end: usize, entry: &[u16]) -> usize
+// The place of the first entry before `end` that is equal, by comparing with each.
+fn scan(diagram: &[u16], end: usize, entry: &[u16]) -> Option<usize>
     requires { Room (length diagram.now) end }
-    ensures upper_bound { result ≤ end }
-    ensures value { (es : Entries) (index : List ℕ) → Laid es diagram.now index end → result ≡ (enter (header fields) es entry.now).place }
+    ensures upper_bound { IfSome result (λ place. place < end) }
+    ensures value { (es : Entries) (index : List ℕ) → Laid es diagram.now index end → unwrap_or result end ≡ (enter (header fields) es entry.now).place }
 {
     let mut place = HEADER;
+    // A `while`: each step is as long as the entry that stands there.
     while place < end {
         let size = size_at(diagram, place);
         if end - place < size {
-            return end;
+            return None;
         }
         let next = place + size;
-        if equal(&diagram[place..next], entry) {
-            return place;
+        if &diagram[place..next] == entry {
+            return Some(place);
         }
         place = next;
     }
-    end
+    None
 }
 
 // A number made from those of an entry.
 fn hash(entry: &[u16]) -> usize
     ensures { (result ≡ hashed 0 entry.now) × (result < 65536) }
 {
-    let n = entry.len();
     let mut h: usize = 0;
-    let mut i = 0;
-    while i < n {
-        h = (h * 40503 + entry[i] as usize) % 65536;
-        i += 1;
+    for x in entry {
+        h = (h * 40503 + usize::from(*x)) % 65536;
     }
     h
 }
@@ -87,91 +66,76 @@ fn equal_at(diagram: &[u16], end: usize, place: usize, entry: &[u16]) -> bool
     if end - place < size {
         return false;
     }
-    equal(&diagram[place..place + size], entry)
+    &diagram[place..place + size] == entry
 }
 
-// A place, as a number to count with.
-fn wide(place: u16) -> usize
-    ensures { result ≡ place }
-{
-    place as usize
-}
-
-// Where an equal entry stands, or the end; and the slot in which a new one is to be noted, SLOTS for none.
+// What the search for an entry gives: the place of an equal one, or that there is none, with the slot for a new one, if one is free.
 #[derive(Clone, Copy)]
-struct Found {
-    pub place: usize,
-    pub slot: usize,
+enum Found {
+    Equal(usize),
+    Absent(Option<usize>),
 }
 
-// The place of an equal entry, and otherwise the end, with a slot for it: the index knows it, or all entries are compared.
+// Searches for an equal entry: the index knows it, or all entries are compared.
 fn find(diagram: &[u16], end: usize, index: &[u16; SLOTS], entry: &[u16]) -> Found
     requires { Room (length diagram.now) end }
-    ensures place_le_end { result.place ≤ end }
-    ensures finding { (es : Entries) → Laid es diagram.now index.now end → Finding es index.now end entry.now result.place result.slot }
+    ensures within { FoundWithin end result }
+    ensures finding { (es : Entries) → Laid es diagram.now index.now end → Finding es index.now end entry.now result }
 {
     let hash = hash(entry);
-    let mut tried = 0;
-    while tried < TRIES {
+    for tried in 0..TRIES {
         let slot = (hash + tried) % SLOTS;
-        let place = wide(index[slot]);
+        let place = usize::from(index[slot]);
         if place == 0 {
-            return Found { place: end, slot };
+            return Found::Absent(Some(slot));
         }
         if equal_at(diagram, end, place, entry) {
-            return Found { place, slot: SLOTS };
+            return Found::Equal(place);
         }
-        tried += 1;
     }
-    Found {
-        place: scan(diagram, end, entry),
-        slot: SLOTS,
+    match scan(diagram, end, entry) {
+        Some(place) => Found::Equal(place),
+        None => Found::Absent(None),
     }
 }
 
-// Notes a place in a slot, where there is that slot.
-fn note(index: &mut [u16; SLOTS], slot: usize, place: u16)
-    ensures { length index.old ≡ slots → index.new ≡ set index.old slot place }
+// Notes a place in a slot, where there is one.
+fn note(index: &mut [u16; SLOTS], slot: Option<usize>, place: u16)
+    requires { IfSome slot (λ s. s < slots) }
+    ensures { index.new ≡ noted slot index.old place }
 {
-    if slot < SLOTS {
+    if let Some(slot) = slot {
         index[slot] = place;
     }
 }
 
 // Where an entry stands, or is to stand after the last one, if there is room: the index then knows it.
-pub(crate) fn settle(diagram: &[u16], end: usize, index: &mut [u16; SLOTS], entry: &[u16]) -> Step
+pub(crate) fn settle(
+    diagram: &[u16],
+    end: usize,
+    index: &mut [u16; SLOTS],
+    entry: &[u16],
+) -> Option<Step>
     requires { Room (length diagram.now) end × ((1 ≤ length entry.now) × (length entry.now ≤ 514)) }
-    ensures bounded { Bounded diagram.now index.old end diagram.now index.new result.full result.end result.place }
-    ensures place_value { end ≤ result.place → (result.place ≡ end) × (result.end ≡ end + length entry.now) × (result.full ≡ false) }
-    ensures settling { (es : Entries) → Laid es diagram.now index.old end → Settling (enter (header fields) es entry.now) (length diagram.now) index.new result.full result.end result.place }
+    ensures bounded { Bounded diagram.now index.old diagram.now index.new result }
+    ensures place_value { NewAtEnd end (length entry.now) result }
+    ensures settling { (es : Entries) → Laid es diagram.now index.old end → Settling (enter (header fields) es entry.now) (length diagram.now) index.new result }
 {
-    let found = find(diagram, end, index, entry);
-    if found.place < end {
-        return Step {
-            end,
-            place: found.place,
-            full: false,
-        };
-    }
-    let next = end + entry.len();
-    if MOST_PLACES < next {
-        return Step {
-            end,
-            place: 0,
-            full: true,
-        };
-    }
-    if diagram.len() < next {
-        return Step {
-            end,
-            place: 0,
-            full: true,
-        };
-    }
-    note(index, found.slot, end as u16);
-    Step {
-        end: next,
-        place: end,
-        full: false,
+    match find(diagram, end, index, entry) {
+        Found::Equal(place) => Some(Step { end, place }),
+        Found::Absent(slot) => {
+            let next = end + entry.len();
+            if MOST_PLACES < next {
+                return None;
+            }
+            if diagram.len() < next {
+                return None;
+            }
+            note(index, slot, end as u16);
+            Some(Step {
+                end: next,
+                place: end,
+            })
+        }
     }
 }

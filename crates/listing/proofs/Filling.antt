@@ -10,9 +10,8 @@ use Rattle.answer.proofs.RequestsInOrder.{before_through}
 use Rattle.diagram.specs.Layout.{maximum}
 use Rattle.listing.specs.Text.{most_line}
 use Rattle.listing.specs.Written.{Written}
-use Rattle.listing.specs.Paths.{line_of, follows, next_of, Later}
+use Rattle.listing.specs.Paths.{After, line_of, follows, next_of, Later}
 use Rattle.listing.specs.Listing.{begun, onward, Run, Paged, Onward}
-use Rattle.listing.specs.declared.paths.After.{After}
 use Rattle.listing.proofs.Writing.{none_written, written_join, written_long}
 use Rattle.listing.proofs.NextIsLater.{after_is}
 

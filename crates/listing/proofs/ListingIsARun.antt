@@ -13,9 +13,8 @@ use Rattle.diagram.specs.LookUp.{edge, ruling_at, child, look_up, ruled_by}
 use Rattle.diagram.specs.Sound.{EntryBefore, next_level, Sound}
 use Rattle.diagram.proofs.Descent.{node_here, child_here}
 use Rattle.listing.specs.Text.{Range, line}
-use Rattle.listing.specs.Paths.{first_at, range_at, path_from, path_of, line_of, follows, ends, next_from, next_of}
+use Rattle.listing.specs.Paths.{After, first_at, range_at, path_from, path_of, line_of, follows, ends, next_from, next_of}
 use Rattle.listing.specs.Listing.{in_order, lines_from, Run, begun, onward}
-use Rattle.listing.specs.declared.paths.After.{After}
 use Rattle.listing.proofs.NextPath.{at_below, at_next, at_last}
 use Rattle.listing.proofs.NextIsLater.{after_is}
 use Rattle.listing.proofs.EdgeByFirst.{edge_of_first, first_within}

@@ -7,7 +7,9 @@ use Prim.Native.Nat.{ℕ, zero, suc, ◌+◌, ◌≤◌, ◌<◌}
 use native.Mathlib.Omega.{arith}
 use native.Mathlib.Numerals.{add-one}
 use lib.ListN.{length, get_or}
+use Rattle.std.specs.Prelude.{Option, Some, None, IfSome}
 use Rattle.answer.specs.Fields.{fields}
+use Rattle.answer.specs.Answers.{zeros}
 use Rattle.answer.specs.Requests.{Within}
 use Rattle.answer.specs.Order.{Precedes}
 use Rattle.answer.proofs.Tests.{lt_or_ge}
@@ -16,10 +18,9 @@ use Rattle.diagram.specs.LookUp.{edge, child}
 use Rattle.diagram.specs.Sound.{EntryBefore, next_level, Sound}
 use Rattle.diagram.proofs.FirstEdge.{edge_reaches}
 use Rattle.diagram.proofs.Descent.{child_here}
-use Rattle.listing.specs.Paths.{first_at, follows, ends, next_at, next_from, next_of, Later}
-use Rattle.listing.specs.declared.paths.After.{After}
+use Rattle.listing.specs.Paths.{After, after, request_of, first_at, follows, ends, next_at, next_from, next_of, Later}
 use Rattle.listing.proofs.Edges.{next_first_most}
-use Rattle.listing.proofs.NextPath.{at_below, at_next, at_last}
+use Rattle.listing.proofs.NextPath.{at_below, at_next, at_last, request_where}
 
 -- the values of the fields from f on are within the maxima
 abbrev WithinFrom : List ℕ → ℕ → List ℕ → Type 0
@@ -102,8 +103,21 @@ module _ (d : List ℕ) (s : Sound fields d) where
         rises = a.rises m;
       }
 
+  -- what the code hands back, where a request follows
+  pub later_where_some : (q : List ℕ) (r : Option (List ℕ)) → length q ≡ fields → Within (maximum d) q → after r ≡ next_of d q → IfSome r (λ (n : List ℕ). Later d q n)
+  later_where_some q None l w e = tt
+  later_where_some q (Some n) l w e = next_is_later q (follows n) l w e refl
+
 -- answers with equal parts are equal
 pub after_is : (a b : After) → (a.more ≡ b.more) × (a.values ≡ b.values) → a ≡ b
 after_is a b e =
     ap (λ (m : Bool). record { more = m; values = a.values }) e.0
     ∙ ap (λ (q : List ℕ). record { more = b.more; values = q }) e.1
+
+-- the request that the code hands back, and zeros where it hands back none, are what follows
+pub after_request : (n : After) → (n.more ≡ false → n.values ≡ zeros fields) → after (request_of [] n) ≡ n
+after_request n z = by n.more refl
+  where
+    by : (b : Bool) → n.more ≡ b → after (request_of [] n) ≡ n
+    by true e = ap after (request_where [] n true e) ∙ after_is (follows n.values) n (sym e, refl)
+    by false e = ap after (request_where [] n false e) ∙ after_is (ends (zeros fields)) n (sym e, sym (z e))

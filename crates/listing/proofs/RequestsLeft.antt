@@ -1,5 +1,5 @@
 -- Fewer requests are left after a later one: a loop from request to request ends.
-use mathlib.Core.Path.{◌≡◌, sym, ap, ◌∙◌}
+use mathlib.Core.Path.{◌≡◌, refl, sym, ap, ◌∙◌}
 use mathlib.Core.Logic.{⊎_elim}
 use mathlib.Core.List.{List, [], ◌∷◌}
 use Prim.Native.Nat.{ℕ, suc, ◌+◌, ◌-◌, ◌*◌, ◌^◌, ◌≤◌, ◌<◌}
@@ -10,7 +10,9 @@ use Rattle.answer.specs.Fields.{fields}
 use Rattle.answer.specs.Order.{IsRequest, Precedes}
 use Rattle.diagram.specs.Layout.{maximum}
 use Rattle.diagram.specs.Sound.{Sound}
-use Rattle.listing.specs.Paths.{Later}
+use Rattle.std.specs.Prelude.{Option, Some, None}
+use Rattle.listing.specs.Paths.{after, Later}
+use Rattle.listing.specs.Listing.{Onward}
 
 -- how many requests with values up to 255 come before q
 unfoldable pub rank : List ℕ → ℕ
@@ -55,3 +57,13 @@ fewer_left {q = q} {r = r} s i l =
     let small : UpTo255 q = λ g h. omega (arith, i.1 g (omega (arith, i.0)), s.maxima g (omega (arith, i.0))) in
     let rises : rank q < rank r = rank_rises q r (i.0 ∙ sym l.request.0) small l.rises in
     omega (arith, rank_bounded q small, ap (λ (k : ℕ). 256 ^ k) i.0)
+
+-- how many requests are left where one is next, or none
+abbrev pub left_where : Option (List ℕ) → ℕ
+left_where None = 0
+left_where (Some q) = suc (requests_left q)
+
+-- fewer are left after a request and what is next after it
+pub fewer_next : {d q : List ℕ} (r : Option (List ℕ)) → Sound fields d → IsRequest (maximum d) q → Onward d q (after r) → left_where r < left_where (Some q)
+fewer_next None s i o = omega arith
+fewer_next (Some n) s i o = omega (arith, fewer_left s i (o refl))

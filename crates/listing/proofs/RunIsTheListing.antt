@@ -11,9 +11,8 @@ use Rattle.answer.specs.Answers.{zeros}
 use Rattle.answer.proofs.Tests.{lt_or_ge}
 use Rattle.diagram.specs.Layout.{root}
 use Rattle.diagram.specs.Sound.{Sound}
-use Rattle.listing.specs.Paths.{first_line, line_of, follows, ends, next_of}
+use Rattle.listing.specs.Paths.{After, first_line, line_of, follows, ends, next_of}
 use Rattle.listing.specs.Listing.{listing, lines_from, Run, begun, onward}
-use Rattle.listing.specs.declared.paths.After.{After}
 use Rattle.listing.proofs.ListingIsARun.{listing_is_a_run}
 
 -- what is next after the first k lines from request q on, and those lines

@@ -6,8 +6,7 @@ use Rattle.diagram.specs.Layout.{root, edges_at, child_at}
 use Rattle.diagram.specs.LookUp.{ruling_at}
 use Rattle.listing.specs.Text.{Range, line, most_line}
 use Rattle.listing.specs.Written.{Written}
-use Rattle.listing.specs.Paths.{range_at, line_of, first_line, follows, next_of, Later}
-use Rattle.listing.specs.declared.paths.After.{After}
+use Rattle.listing.specs.Paths.{After, range_at, line_of, first_line, follows, next_of, Later}
 
 -- the lines of n edges, one after another in rising order, where `under j` are those of edge j
 unfoldable pub in_order : (ℕ → List ℕ) → ℕ → List ℕ

@@ -1,12 +1,12 @@
 -- The paths of a diagram: the ranges of the one that a request takes, its line, and the first request after it.
 -- Assumes nothing: these are definitions.
-use Rattle.std.specs.Prelude.{true, false, cond, List, [], ◌∷◌, ℕ, zero, suc, ◌+◌, ltb, take, drop}
+use Rattle.std.specs.Prelude.{Bool, true, false, cond, Option, Some, None, List, [], ◌∷◌, ◌++◌, ℕ, zero, suc, ◌+◌, ltb, take, drop}
 use Rattle.answer.specs.Fields.{fields}
+use Rattle.answer.specs.Answers.{zeros}
 use Rattle.answer.specs.Order.{IsRequest, Precedes}
 use Rattle.diagram.specs.Layout.{root, maximum, edges_at, last_at}
 use Rattle.diagram.specs.LookUp.{edge, child, ruled_by}
 use Rattle.listing.specs.Text.{Range, fields_line, line}
-use Rattle.listing.specs.declared.paths.After.{After}
 
 -- "Edges rise; the first begins at 0, the next one after the last": the first value of edge j of the node at p
 abbrev pub first_at : List ℕ → ℕ → ℕ → ℕ
@@ -38,6 +38,11 @@ maxima_of d = take fields (drop 2 d)
 abbrev pub first_line : List ℕ → List ℕ
 first_line d = fields_line (maxima_of d)
 
+-- A request that follows, or none, with zeros for it.
+pub record After : Type 0 where
+  pub more : Bool
+  pub values : List ℕ
+
 -- a request that follows
 abbrev pub follows : List ℕ → After
 follows q = record { more = true; values = q }
@@ -45,6 +50,15 @@ follows q = record { more = true; values = q }
 -- no request follows; q is then zeros
 abbrev pub ends : List ℕ → After
 ends q = record { more = false; values = q }
+
+-- what the code hands back where a request follows, or none
+abbrev pub after : Option (List ℕ) → After
+after None = ends (zeros fields)
+after (Some q) = follows q
+
+-- the request that some values make with those that follow, if any do
+abbrev pub request_of : List ℕ → After → Option (List ℕ)
+request_of before n = cond n.more (Some (before ++ n.values)) None
 
 -- "in rising order", at the node at p: the values after v move on where they can; else v moves on to the next edge, if there is one, and they start at 0
 unfoldable pub next_at : List ℕ → ℕ → ℕ → After → After

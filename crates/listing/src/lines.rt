@@ -67,14 +67,12 @@ fn put_path(diagram: &[u16], values: [u16; FIELDS], text: &mut [u8], at: usize) 
 {
     let mut place = diagram[1] as usize;
     let mut end = at;
-    let mut field = 0;
-    while field < FIELDS {
-        let edge = edge_of(diagram, place, values[field]);
+    for value in values {
+        let edge = edge_of(diagram, place, value);
         let low = first_of(diagram, place, edge);
         end = put_range(low, diagram[place + 2 + 2 * edge] as usize, text, end);
         end = put(b' ', text, end);
         place = diagram[place + 3 + 2 * edge] as usize;
-        field += 1;
     }
     Reached {
         terminal: place,

@@ -28,10 +28,8 @@ pub(crate) fn put_all(bytes: &[u8], text: &mut [u8], at: usize) -> usize
     ensures { Written text.old text.new at result bytes.now }
 {
     let mut end = at;
-    let mut i = 0;
-    while i < bytes.len() {
-        end = put(bytes[i], text, end);
-        i += 1;
+    for byte in bytes {
+        end = put(*byte, text, end);
     }
     end
 }
@@ -78,11 +76,9 @@ pub(crate) fn put_items(numbers: &[u16], text: &mut [u8], at: usize) -> usize
     ensures { Written text.old text.new at result (items numbers.now) }
 {
     let mut end = at;
-    let mut i = 0;
-    while i < numbers.len() {
+    for number in numbers {
         end = put(b' ', text, end);
-        end = put_decimal(numbers[i] as usize, text, end);
-        i += 1;
+        end = put_decimal(usize::from(*number), text, end);
     }
     end
 }

@@ -6,7 +6,7 @@ ghost use Rattle.answer.specs.Fields.{fields};
 ghost use Rattle.diagram.specs.Sound.{Sound};
 ghost use Rattle.std.specs.Io.{ReadsAtMost};
 
-use answer::FIELDS;
+use answer::{Answer, FIELDS};
 use building::build;
 use diagram::MOST_PLACES;
 use encoding::layout::MOST_BYTES;
@@ -24,7 +24,7 @@ fn main(rt: HostRuntime) -> io::Result<()> {
     let mut input = [0u8; MOST_BYTES + 1];
     let n = read_full(&mut rt.stdin(), &mut input)?;
     if n > MOST_BYTES {
-        return print_refusal(&rt, 1, 0);
+        return print_refusal(&rt, Answer::refused(1, 0));
     }
     print_rulings(&rt, &input[..n])
 }
@@ -49,14 +49,14 @@ fn print_rulings(rt: &impl Print, table: &[u8]) -> io::Result<()> {
     let mut diagram = [0u16; MOST_PLACES];
     let built = build(table, &mut diagram);
     if built.number != 0 {
-        return print_refusal(rt, built.number, built.place);
+        return print_refusal(rt, built);
     }
     print_listing(rt, &diagram)
 }
 
-fn print_refusal(rt: &impl Print, number: u8, place: usize) -> io::Result<()> {
+fn print_refusal(rt: &impl Print, refusal: Answer) -> io::Result<()> {
     let mut text = [0u8; LINE];
-    let end = refused_line(number, place, &mut text, 0);
+    let end = refused_line(refusal.number, refusal.place, &mut text, 0);
     rt.write_all(&text[..end])
 }
 
@@ -66,18 +66,14 @@ fn print_listing(rt: &impl Print, diagram: &[u16]) -> io::Result<()>
 {
     let mut text = empty_page();
     let mut end = fields_line(diagram, &mut text, 0);
-    let mut values = [0u16; FIELDS];
-    loop {
+    let mut next = Some([0u16; FIELDS]);
+    while let Some(values) = next {
         let page = fill(diagram, values, &mut text, end);
-        let full = page.end;
-        rt.write_all(&text[..full])?;
-        let after = page.after;
-        if !after.more {
-            return Ok(());
-        }
-        values = after.values;
+        rt.write_all(&text[..page.end])?;
+        next = page.next;
         end = 0;
     }
+    Ok(())
 }
 
 // The `ensures` gives only the length, which lending the page as a slice needs.

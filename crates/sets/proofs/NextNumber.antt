@@ -1,5 +1,5 @@
 -- The least place of a word and the word without it, and the least place of a word, or number of a set, from one up.
-use mathlib.Core.Path.{◌≡◌, refl, sym, ap, ap₂, ◌∙◌}
+use mathlib.Core.Path.{◌≡◌, refl, sym, ap, ap₂, ◌∙◌, subst}
 use mathlib.Core.Bool.{Bool, true, false, not, ◌&&◌, true≢false}
 use mathlib.Core.Logic.{⊎_elim}
 use Prim.Native.Nat.{ℕ, zero, suc, ◌+◌, ◌-◌, ◌/◌, ◌%◌, ◌^◌, ◌≤◌, ◌<◌}
@@ -12,7 +12,8 @@ use lib.Pow.{shr_lt}
 use lib.Dec.{eqb, eqb-zero-suc, eqb-suc-suc}
 use lib.Arith.{lt-one}
 use Rattle.answer.proofs.Tests.{lt_or_ge}
-use Rattle.sets.specs.Sets.{bit, has, Next}
+use Rattle.std.specs.Prelude.{Option, Some, None, option_map}
+use Rattle.sets.specs.Sets.{bit, has, Next, NextOrNone}
 use Rattle.sets.specs.declared.Set.{Set}
 use Rattle.sets.proofs.WordPlaces.{bit_and, bit_none, bit_past, bit_first, bit_later, bit_shifted}
 use Rattle.sets.proofs.SetNumbers.{has_low, has_high}
@@ -104,9 +105,9 @@ module _ (w : ℕ) (lw : w < 2 ^ 64) (some : 0 < w) where
 bit_from : (w i j : ℕ) → i ≤ j → bit w j ≡ bit (w / 2 ^ i) (j - i)
 bit_from w i j l = let z : j ≡ i + (j - i) = omega arith in ap (bit w) z ∙ sym (bit_shifted w i (j - i))
 
-pub next_none : (w i : ℕ) → i < 64 → w / 2 ^ i ≡ 0 → Next 64 (bit w) i 64
-next_none w i l e =
-    record { from = omega arith; most = omega arith; passes = λ z. absurd (omega arith); between = λ j lj lk. bit_from w i j lj ∙ bit_none (w / 2 ^ i) (j - i) e }
+-- no place from i up
+pub next_none : (w i : ℕ) → w / 2 ^ i ≡ 0 → (j : ℕ) → i ≤ j → j < 64 → bit w j ≡ false
+next_none w i e j lj lk = bit_from w i j lj ∙ bit_none (w / 2 ^ i) (j - i) e
 
 module _ (w i r : ℕ) (lw : w < 2 ^ 64) (n : Next 64 (bit (w / 2 ^ i)) 0 r) (l : r < 64) where
   passes : bit w (i + r) ≡ true
@@ -125,32 +126,41 @@ module _ (w i r : ℕ) (lw : w < 2 ^ 64) (n : Next 64 (bit (w / 2 ^ i)) 0 r) (l 
         between = λ j lj lk. bit_from w i j lj ∙ n.between (j - i) (omega arith) (omega arith);
       }
 
--- of a set
+-- of a set: of the low word, or of the high one where that has none
 
-module _ (s : Set) (i : ℕ) where
-  pub next_low : (a : ℕ) → Next 64 (bit s.low) i a → a < 64 → Next 128 (has s) i a
-  next_low a h l =
-      record {
-        from = h.from;
-        most = omega arith;
-        passes = λ _. has_low s a l ∙ h.passes l;
-        between = λ j lj lk. has_low s j (omega arith) ∙ h.between j lj lk;
-      }
+module _ (s : Set) (i : ℕ) (most : i ≤ 128) where
+  next_low : (a : ℕ) → Next 64 (bit s.low) i a × (a < 64) → Next 128 (has s) i a × (a < 128)
+  next_low a (h, l) = (
+    record {
+      from = h.from;
+      most = omega arith;
+      passes = λ _. has_low s a l ∙ h.passes l;
+      between = λ j lj lk. has_low s j (omega arith) ∙ h.between j lj lk;
+    },
+    omega arith,
+  )
 
-  up : (b : ℕ) → b ≤ 64 → (b < 64 → bit s.high b ≡ true) → i ≤ 64 + b → ((j : ℕ) → i ≤ j → j < 64 + b → has s j ≡ false) → Next 128 (has s) i (64 + b)
-  up b l p f g =
-      let z : 64 + b - 64 ≡ b = omega arith in
-      record { from = f; most = omega arith; passes = λ m. has_high s (64 + b) (omega arith) ∙ ap (bit s.high) z ∙ p (omega arith); between = g }
+  module _ (none : (j : ℕ) → i ≤ j → j < 64 → bit s.low j ≡ false) where
+    -- up to number n, below which the high word has none
+    none_up : (n : ℕ) → ((j : ℕ) → i - 64 ≤ j → j < n - 64 → bit s.high j ≡ false) → (j : ℕ) → i ≤ j → j < n → has s j ≡ false
+    none_up n k j lj lk =
+        ⊎_elim (λ (l : j < 64). has_low s j l ∙ none j lj l) (λ (l : 64 ≤ j). has_high s j l ∙ k (j - 64) (omega arith) (omega arith)) (lt_or_ge j 64)
 
-  pub next_over : (a b : ℕ) → Next 64 (bit s.low) i a → 64 ≤ a → Next 64 (bit s.high) 0 b → Next 128 (has s) i (64 + b)
-  next_over a b h l k =
-      up b k.most k.passes (omega (arith, h.from, h.most))
-      (λ j lj lk.
-      ⊎_elim (λ (m : j < 64). has_low s j m ∙ h.between j lj (omega arith)) (λ (m : 64 ≤ j). has_high s j m ∙ k.between (j - 64) (omega arith) (omega arith)) (lt_or_ge j 64))
+    next_high : (r : Option ℕ) → NextOrNone 64 (bit s.high) (i - 64) r → NextOrNone 128 (has s) i (option_map (λ p. 64 + p) r)
+    next_high None k = none_up 128 k
+    next_high (Some b) (h, l) =
+        let z : 64 + b - 64 ≡ b = omega arith in (
+          record {
+            from = omega (arith, h.from);
+            most = omega arith;
+            passes = λ _. has_high s (64 + b) (omega arith) ∙ ap (bit s.high) z ∙ h.passes l;
+            between = none_up (64 + b) (λ j lj lk. h.between j lj (omega arith));
+          },
+          omega arith,
+        )
 
-  pub next_high : (b : ℕ) → 64 ≤ i → Next 64 (bit s.high) (i - 64) b → Next 128 (has s) i (64 + b)
-  next_high b l k =
-      up b k.most k.passes (omega (arith, k.from)) (λ j lj lk. has_high s j (omega arith) ∙ k.between (j - 64) (omega arith) (omega arith))
-
-  pub next_end : i ≤ 128 → 128 ≤ i → Next 128 (has s) i 128
-  next_end l m = record { from = l; most = omega arith; passes = λ z. absurd (omega arith); between = λ j lj lk. absurd (omega arith) }
+  -- the number that the low word gives, or else the one that the high word gives
+  pub next_either : (low r : Option ℕ) → NextOrNone 64 (bit s.low) i low → ((x : ℕ) → low ≡ Some x → r ≡ Some x) →
+      (low ≡ None → (high : Option ℕ) × NextOrNone 64 (bit s.high) (i - 64) high × (r ≡ option_map (λ p. 64 + p) high)) → NextOrNone 128 (has s) i r
+  next_either (Some x) r n l h = subst (NextOrNone 128 (has s) i) (sym (l x refl)) (next_low x n)
+  next_either None r n l h = let (high, k, e) = h refl in subst (NextOrNone 128 (has s) i) (sym e) (next_high n high k)

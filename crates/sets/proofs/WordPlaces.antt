@@ -8,10 +8,12 @@ use native.Mathlib.Numerals.{one-add}
 use native.Mathlib.Omega.{arith}
 use borrow.Author.Tests.{eq-eqb, ne_eqb, lt-ltb, le-ltb, lt-leb, le-leb}
 use lib.Arith.{digits_mod}
-use lib.Bits.{bit_and as word_and, bit_or as word_or, bit_xor as word_xor, differ, and_step, or_step, xor_step, and_shr, or_shr, xor_shr, and_mask, shifted_half, shifted_even}
+use lib.Bits.{bit_and as word_and, bit_or as word_or, and_step, or_step, and_shr, or_shr, and_mask, shifted_half, shifted_even}
 use lib.Pow.{pow_mono, pow_pos, shr-shr}
 use lib.Dec.{eqb, ltb, leb, lit<}
 use Rattle.answer.proofs.Tests.{lt_or_ge}
+use Rattle.std.specs.Int.{w64}
+use Rattle.std.proofs.lemmas.Nat.Bits.{bit_at_not}
 use Rattle.sets.specs.Sets.{bit}
 
 -- two tests that say yes and no together
@@ -49,18 +51,6 @@ bit_and = by_digits word_and min (λ x y. x && y) and_shr and_step (lit< tt, ref
 pub bit_or : (a b i : ℕ) → bit (word_or a b) i ≡ bit a i || bit b i
 bit_or = by_digits word_or max (λ x y. x || y) or_shr or_step (lit< tt, refl) (lit< tt, refl) (lit< tt, refl) (lit< tt, refl)
 
-bit_xor : (a b i : ℕ) → bit (word_xor a b) i ≡ cond (bit a i) (not (bit b i)) (bit b i)
-bit_xor = by_digits word_xor differ (λ x y. cond x (not y) y) xor_shr xor_step (lit< tt, refl) (lit< tt, refl) (lit< tt, refl) (lit< tt, refl)
-
--- set, then turned over: not set
-pub bit_but : (a b i : ℕ) → bit (word_xor (word_or a b) b) i ≡ bit a i && not (bit b i)
-bit_but a b i = bit_xor (word_or a b) b i ∙ ap (λ x. cond x (not (bit b i)) (bit b i)) (bit_or a b i) ∙ cases (bit a i) (bit b i)
-  where
-    cases : (x y : Bool) → cond (x || y) (not y) y ≡ x && not y
-    cases true y = refl
-    cases false true = refl
-    cases false false = refl
-
 pub bit_zero : (i : ℕ) → bit 0 i ≡ false
 unfolding bit
 bit_zero i = ap (λ n. eqb (n % 2) 1) (div-eq_of_lt (pow_pos i))
@@ -72,6 +62,19 @@ bit_none w i e = ap (λ w. bit w i) e ∙ bit_zero i
 pub bit_past : (w i : ℕ) → w < 2 ^ 64 → 64 ≤ i → bit w i ≡ false
 unfolding bit
 bit_past w i l h = ap (λ n. eqb (n % 2) 1) (div-eq_of_lt (lt_of_lt_of_le l (pow_mono h)))
+
+-- the places of a word that another does not have
+pub bit_cleared : (w m i : ℕ) → w < 2 ^ 64 → m < 2 ^ 64 → bit (word_and w (2 ^ 64 - 1 - m)) i ≡ bit w i && not (bit m i)
+unfolding bit
+bit_cleared w m i lw lm =
+    bit_and w (2 ^ 64 - 1 - m) i
+    ∙ ⊎_elim
+    (λ (l : i < 64). ap (λ d. bit w i && eqb d 1) (bit_at_not w64 m i lm l) ∙ ap (λ b. bit w i && b) (turned (m / 2 ^ i % 2) (mod-lt (m / 2 ^ i) (zero-lt-suc 1))))
+    (λ (h : 64 ≤ i). ap (λ b. b && bit (2 ^ 64 - 1 - m) i) (bit_past w i lw h) ∙ sym (ap (λ b. b && not (bit m i)) (bit_past w i lw h)))
+    (lt_or_ge i 64)
+  where
+    turned : (d : ℕ) → d < 2 → eqb (1 - d) 1 ≡ not (eqb d 1)
+    turned d l = two (λ d. eqb (1 - d) 1 ≡ not (eqb d 1)) refl refl d l
 
 pub bit_first : (w : ℕ) → bit w 0 ≡ eqb (w % 2) 1
 unfolding bit

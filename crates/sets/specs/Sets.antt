@@ -1,6 +1,6 @@
 -- Sets of numbers below 128, as two words: which places of a word are set, and which numbers a set has.
 -- Assumes nothing: these are definitions.
-use Rattle.std.specs.Prelude.{Bool, true, false, cond, ◌&&◌, ◌≡◌, ℕ, ◌-◌, ◌≤◌, ◌<◌, ◌/◌, ◌%◌, ◌^◌, eqb, ltb}
+use Rattle.std.specs.Prelude.{Bool, true, false, cond, ◌&&◌, ◌≡◌, ℕ, ◌-◌, ◌≤◌, ◌<◌, ◌/◌, ◌%◌, ◌^◌, eqb, ltb, Option, MatchOption}
 use Rattle.sets.specs.declared.Set.{Set}
 
 -- how many numbers a set is over: those below this
@@ -29,3 +29,7 @@ pub record Next (n : ℕ) (p : ℕ → Bool) (i r : ℕ) : Type 0 where
   pub most : r ≤ n
   pub passes : r < n → p r ≡ true
   pub between : (j : ℕ) → i ≤ j → j < r → p j ≡ false
+
+-- r is the least number from i up, below n, that passes the test; none where none does
+abbrev pub NextOrNone : ℕ → (ℕ → Bool) → ℕ → Option ℕ → Type 0
+NextOrNone n p i r = MatchOption r ((j : ℕ) → i ≤ j → j < n → p j ≡ false) (λ m. Next n p i m × (m < n))

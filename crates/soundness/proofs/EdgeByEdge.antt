@@ -1,19 +1,12 @@
 -- Laws of a node whose edges are checked one after another, one for each way through the code.
-use mathlib.Core.Path.{◌≡◌, refl, sym, ap, ◌∙◌, subst}
-use mathlib.Core.Bool.{Bool, true, false, cond}
-use mathlib.Core.Logic.{◌⊎◌, ⊎_elim}
-use mathlib.Core.List.{List}
-use Prim.Native.Nat.{ℕ, ◌+◌, ◌-◌, ◌≤◌, ◌<◌}
-use native.Mathlib.Omega.{arith}
+use Rattle.std.proofs.Common.{◌≡◌, refl, sym, ap, ◌∙◌, subst, Bool, true, false, cond, ◌⊎◌, ⊎_elim, inl, inr, List, ℕ, ◌+◌, ◌-◌, ◌≤◌, ◌<◌, arith, eqb-true, eq-eqb, ne_eqb, eqb, get_or, take, below_more}
+use Rattle.std.proofs.lemmas.Bool.{eqb-false}
+use Rattle.std.proofs.lemmas.List.{get_or-take, get_or_past, length-take}
 use native.Mathlib.Nat.{eq-or-lt_of_le}
-use borrow.Author.Count.{below_more}
-use borrow.Author.Tests.{eqb-true, eqb-false, eq-eqb, ne_eqb}
-use lib.Dec.{eqb}
-use lib.ListN.{get_or}
 use Rattle.answer.specs.Fields.{fields}
 use Rattle.diagram.specs.Layout.{number_at, maximum, level_at, edges_at, last_at, child_at}
 use Rattle.diagram.specs.Sound.{EntryBefore, next_level, SoundNode}
-use Rattle.diagram.specs.Decided.{Decides}
+use Rattle.diagram.specs.Decided.{Decides, lt?}
 use Rattle.soundness.specs.Pass.{EntriesMarked}
 
 -- the mark where entries of the next level start
@@ -73,6 +66,14 @@ module _ (d : List ℕ) (p : ℕ) where
   abbrev pub MarkOf : List ℕ → ℕ → ℕ → Type 0
   MarkOf marks j mark = ((child_at d p j < p) × (mark ≡ get_or marks (child_at d p j) 0)) ⊎ ((p ≤ child_at d p j) × (mark ≡ 0))
 
+  pub mark_of : (marks : List ℕ) (j mark : ℕ) → mark ≡ get_or (take p marks) (child_at d p j) 0 → MarkOf marks j mark
+  mark_of marks j mark e =
+      let i : ℕ = child_at d p j in
+      ⊎_elim
+      (λ (l : i < p). inl (l, e ∙ get_or-take p marks i 0 l))
+      (λ (n : i < p → ⊥). inr (omega (arith, n), e ∙ get_or_past (take p marks) i 0 (omega (arith, length-take p marks, n))))
+      (lt? i p)
+
   module _ (marks : List ℕ) (m : EntriesMarked d p marks) (j mark below : ℕ) (o : MarkOf marks j mark) (eb : below ≡ next_level fields (level_at d p) + 1) where
     -- a child with the right mark is the start of an earlier entry of the next level
     pub child_right : mark ≡ below → ChildRight j
@@ -103,9 +104,9 @@ module _ (d : List ℕ) (p : ℕ) where
         let i : j - 1 + 1 ≡ j = omega arith in
         c.after (j - 1) i ∙ ap (λ n. last_at d p (n - 1) + 1) ej
 
-    pub edges_decide : (b : Bool) → eqb from (number_at d (1 + level_at d p) + 1) ≡ b → Decides (SoundNode fields d p) b
-    edges_decide true t =
-        let z : from ≡ number_at d (1 + level_at d p) + 1 = eqb-true from _ t in
+    pub edges_decide : (most : ℕ) → most ≡ number_at d (1 + level_at d p) → (b : Bool) → eqb from (most + 1) ≡ b → Decides (SoundNode fields d p) b
+    edges_decide most e true t =
+        let z : from ≡ most + 1 = eqb-true from _ t in
         let some : 1 ≤ j =
         ⊎_elim (λ (y : 0 ≡ j). absurd (omega (arith, c.first (sym y)))) (λ (g : 0 < j). g) (eq-or-lt_of_le {n = 0} {m = j} (omega arith)) in
         record {
@@ -116,4 +117,4 @@ module _ (d : List ℕ) (p : ℕ) where
           ending = omega (arith, ends some, its_maximum);
           children = λ i g. c.children i (omega arith);
         }
-    edges_decide false t = λ s. eqb-false from _ t (omega (arith, ends (omega (arith, s.some_edge)), s.ending, its_maximum))
+    edges_decide most e false t = λ s. eqb-false from _ t (omega (arith, ends (omega (arith, s.some_edge)), s.ending, its_maximum))

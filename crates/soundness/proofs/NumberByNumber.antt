@@ -1,41 +1,30 @@
--- Laws of maxima and of terminals that are checked number by number, one for each way through the code.
-use mathlib.Core.Path.{◌≡◌, sym, ◌∙◌}
-use mathlib.Core.List.{List}
-use Prim.Native.Nat.{ℕ, ◌+◌, ◌≤◌, ◌<◌}
-use native.Mathlib.Omega.{arith}
-use borrow.Author.Count.{below_more}
-use Rattle.diagram.specs.Layout.{maximum, level_at, decision_at, count_at, card_at}
+-- What a search for 0 among a terminal's cards tells.
+use Rattle.std.proofs.Common.{◌≡◌, ℕ, ◌+◌, ◌<◌, ◌≤◌, Bool, true, false, not, nat_eq, List, length, get_or, take, drop, sym, ◌∙◌, arith, eqb-true}
+use Rattle.std.specs.List.{IsAnyAnswer}
+use Rattle.std.proofs.lemmas.Bool.{eqb-false}
+use Rattle.std.proofs.lemmas.List.{get_or-take, get_or-drop, length-take, length-drop}
+use Rattle.diagram.specs.Layout.{level_at, decision_at, count_at, card_at}
 use Rattle.diagram.specs.Sound.{SoundTerminal}
+use Rattle.diagram.specs.Decided.{Decides}
 
-module _ (d : List ℕ) (p : ℕ) where
-  -- the cards before the i-th are not 0
-  abbrev pub NoneZero : ℕ → Type 0
-  NoneZero i = (j : ℕ) → j < i → card_at d p j ≡ 0 → ⊥
+module _ (d : List ℕ) (p m : ℕ) (e : m ≡ count_at d p) (within : p + 3 + count_at d p ≤ length d) where
+  abbrev cards : List ℕ
+  cards = take m (drop (p + 3) d)
 
-  pub none_zero_more : (i c : ℕ) → c ≡ card_at d p i → (c ≡ 0 → ⊥) → NoneZero i → NoneZero (i + 1)
-  none_zero_more i c e n h = below_more (λ j. card_at d p j ≡ 0 → ⊥) i h (λ z. n (e ∙ z))
+  card : (i : ℕ) → i < m → get_or cards i 0 ≡ card_at d p i
+  card i h = get_or-take m (drop (p + 3) d) i 0 h ∙ get_or-drop (p + 3) d i 0
 
-  -- a decision over 3, cards over 127, a card 0
-  pub decision_over : (v : ℕ) → v ≡ decision_at d p → 3 < v → SoundTerminal d p → ⊥
-  decision_over v e h s = omega (arith, s.holds.one_of_four)
+  counted : length cards ≡ m
+  counted = omega (arith, length-take m (drop (p + 3) d), length-drop (p + 3) d)
 
-  pub cards_over : (v : ℕ) → v ≡ count_at d p → 127 < v → SoundTerminal d p → ⊥
-  cards_over v e h s = omega (arith, s.holds.at_most)
-
-  pub card_zero : (i c : ℕ) → c ≡ card_at d p i → c ≡ 0 → i < count_at d p → SoundTerminal d p → ⊥
-  card_zero i c e z h s = s.holds.none_zero i h (sym e ∙ z)
-
-  pub terminal_right : level_at d p ≡ 0 → (v i : ℕ) → v ≡ decision_at d p → v ≤ 3 → count_at d p ≤ 127 → count_at d p ≤ i → NoneZero i → SoundTerminal d p
-  terminal_right l v i e h n m z =
-      record { label = l; holds = record { one_of_four = omega arith; at_most = n; none_zero = λ j g. z j (omega arith) } }
-
-module _ (d : List ℕ) where
-  -- the maxima before field f are at most 255
-  abbrev pub MaximaSmall : ℕ → Type 0
-  MaximaSmall f = (g : ℕ) → g < f → maximum d g ≤ 255
-
-  pub maxima_more : (f m : ℕ) → m ≡ maximum d f → m ≤ 255 → MaximaSmall f → MaximaSmall (f + 1)
-  maxima_more f m e h s = below_more (λ g. maximum d g ≤ 255) f s (omega arith)
-
-  pub maximum_over : (n f m : ℕ) → f < n → m ≡ maximum d f → 255 < m → MaximaSmall n → ⊥
-  maximum_over n f m l e h s = omega (arith, s f l)
+  -- a terminal with one of the four decisions and few cards is sound where none of them is 0
+  pub cards_decide : level_at d p ≡ 0 → decision_at d p ≤ 3 → count_at d p ≤ 127 →
+      (b : Bool) → IsAnyAnswer (λ y t. nat_eq y 0 ≡ t) cards b → Decides (SoundTerminal d p) (not b)
+  cards_decide l v n true h = λ s.
+      let i : h.0 < m = omega (arith, h.1, counted) in
+      s.holds.none_zero h.0 (omega arith) (sym (card h.0 i) ∙ eqb-true _ 0 (h.2 0))
+  cards_decide l v n false h =
+      record {
+        label = l;
+        holds = record { one_of_four = v; at_most = n; none_zero = λ i g z. eqb-false _ 0 (h i 0 (omega arith) (omega (arith, counted))) (card i (omega arith) ∙ z) };
+      }

@@ -11,7 +11,7 @@ ghost use Rattle.soundness.specs.Pass.{Whole, EntriesMarked, Opened, Unmarked};
 
 use answer::FIELDS;
 use combining::Decision;
-use diagram::layout::size_at;
+use diagram::layout::{edges_of, size_at};
 use diagram::{HEADER, MOST_PLACES};
 
 // A diagram that uses no more places than this is marked in a small array, which is cleared sooner.
@@ -22,14 +22,7 @@ fn maxima_sound(diagram: &[u16]) -> bool
     requires { header fields ≤ length diagram.now }
     ensures { Decides ((f : ℕ) → f < fields → maximum diagram.now f ≤ 255) result }
 {
-    let mut field = 0;
-    while field < FIELDS {
-        if 255 < diagram[2 + field] {
-            return false;
-        }
-        field += 1;
-    }
-    true
+    diagram[2..HEADER].iter().all(|maximum| *maximum <= 255)
 }
 
 // Whether the entry at a place, which begins with 0, is a sound terminal.
@@ -38,55 +31,37 @@ fn terminal_sound(diagram: &[u16], place: usize) -> bool
     requires place_lt_most_places { (place < most_places) × (place + 3 + count_at diagram.now place ≤ length diagram.now) }
     ensures { Decides (SoundTerminal diagram.now place) result }
 {
-    if (Decision::INDETERMINATE as u16) < diagram[place + 1] {
+    let count = usize::from(diagram[place + 2]);
+    if u16::from(Decision::INDETERMINATE) < diagram[place + 1] || 127 < count {
         return false;
     }
-    let count = diagram[place + 2] as usize;
-    if 127 < count {
-        return false;
-    }
-    let mut i = 0;
-    while i < count {
-        if diagram[place + 3 + i] == 0 {
-            return false;
-        }
-        i += 1;
-    }
-    true
+    let cards = &diagram[place + 3..place + 3 + count];
+    !cards.contains(&0)
 }
 
-// Whether the entry at a place, which does not begin with 0, is a sound node. An edge may not end before `from`. A child is checked by one read of its mark; a place that is no earlier has none.
+// Whether the entry at a place, which does not begin with 0, is a sound node. An edge may not end before `from`. A child is checked by one read of its mark; a place that is no earlier has none, which is 0.
 fn node_sound(diagram: &[u16], place: usize, marks: &[u8]) -> bool
     requires bound { (1 ≤ level_at diagram.now place) × (header fields ≤ length diagram.now) }
     requires place_lt_most_places { (place < most_places) × (place + 2 + 2 * edges_at diagram.now place ≤ length diagram.now) }
     requires entries_marked { EntriesMarked diagram.now place marks.now }
     ensures { Decides (SoundNode fields diagram.now place) result }
 {
-    let level = diagram[place] as usize;
+    let level = usize::from(diagram[place]);
     if FIELDS < level {
         return false;
     }
-    let mut below: u8 = 1;
-    if level < FIELDS {
-        below = level as u8 + 2;
-    }
-    let edges = diagram[place + 1] as usize;
-    let mut from: usize = 0;
-    let mut edge: usize = 0;
-    while edge < edges {
-        let last = diagram[place + 2 + 2 * edge] as usize;
-        let child = diagram[place + 3 + 2 * edge] as usize;
-        if last < from {
-            return false;
-        }
-        let mark = if child < place { marks[child] } else { 0 };
-        if mark != below {
+    let below = if level < FIELDS { level as u8 + 2 } else { 1 };
+    let passed = &marks[..place];
+    let mut from = 0;
+    for [last, child] in edges_of(diagram, place) {
+        let last = usize::from(*last);
+        let mark = passed.get(usize::from(*child)).copied().unwrap_or(0);
+        if last < from || mark != below {
             return false;
         }
         from = last + 1;
-        edge += 1;
     }
-    from == diagram[1 + level] as usize + 1
+    from == usize::from(diagram[1 + level]) + 1
 }
 
 // Whether the entry at a place is sound.
@@ -108,8 +83,9 @@ fn entries_sound(diagram: &[u16], marks: &mut [u8]) -> bool
     requires unmarked { Unmarked diagram.now marks.old }
     ensures { Decides (Sound fields diagram.now) result }
 {
-    let end = diagram[0] as usize;
+    let end = usize::from(diagram[0]);
     let mut place = HEADER;
+    // Entries differ in size, so no library form goes from one to the next.
     while place < end {
         let size = size_at(diagram, place);
         if end < place + size {
@@ -121,11 +97,8 @@ fn entries_sound(diagram: &[u16], marks: &mut [u8]) -> bool
         marks[place] = diagram[place] as u8 + 1;
         place += size;
     }
-    let root = diagram[1] as usize;
-    if end <= root {
-        return false;
-    }
-    marks[root] == 2
+    let root = usize::from(diagram[1]);
+    root < end && marks[root] == 2
 }
 
 // Whether the header is as a sound diagram has it.
@@ -135,17 +108,8 @@ fn header_sound(diagram: &[u16]) -> bool
     if diagram.len() < HEADER {
         return false;
     }
-    let end = diagram[0] as usize;
-    if end < HEADER {
-        return false;
-    }
-    if diagram.len() < end {
-        return false;
-    }
-    if MOST_PLACES < end {
-        return false;
-    }
-    maxima_sound(diagram)
+    let end = usize::from(diagram[0]);
+    HEADER <= end && end <= diagram.len() && end <= MOST_PLACES && maxima_sound(diagram)
 }
 
 // Whether the slice is a sound diagram.
@@ -155,7 +119,7 @@ pub fn is_sound(diagram: &[u16]) -> bool
     if !header_sound(diagram) {
         return false;
     }
-    if diagram[0] as usize <= SMALL {
+    if usize::from(diagram[0]) <= SMALL {
         let mut marks = [0u8; SMALL];
         entries_sound(diagram, &mut marks)
     } else {

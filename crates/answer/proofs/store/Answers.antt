@@ -1,13 +1,15 @@
--- `answer::store` meets its contract: the numbers so far are stored.
-use Rattle.answer.proofs.Stored.{stored_none, stored_more, stored_all}
-use Rattle.std.proofs.Common.{arith}
+-- `answer::store` meets its contract: the part that takes the items is all that changed.
+use Rattle.std.proofs.Common.{sym, ◌∙◌, refl, ◌+◌, ◌-◌, length, take}
+use Rattle.std.proofs.lemmas.Slice.{put_mid-paste}
+use Rattle.std.proofs.lemmas.List.Edits.{sets-eq, paste_all}
+use Rattle.std.proofs.lemmas.List.{append_assoc}
+use native.Mathlib.Omega.{arith}
 use Rattle.answer.proofs.store.Goals as goal
 
-pub loop-i-init : goal.loop-i-init
-loop-i-init c = stored_none c.args.numbers.now c.args.list.now 0
-
-pub loop-i-preserved : goal.loop-i-preserved
-loop-i-preserved c = stored_more c.args.numbers.now _ _ 0 _ _ c.loop-i.invariant _ (omega arith) c.loop-i-test.true
-
 pub returns : goal.returns
-returns c = stored_all c.args.numbers.now _ _ 0 _ _ c.loop-i.invariant c.loop-i-test.false
+returns g c =
+    let items = c.args.items.now in
+    let at = c.args.at in
+    put_mid-paste at (at + length items - at) c.args.list.now c.copy_from_slice.new.self items (length items) c.copy_from_slice.ensures.after (omega arith) refl
+    ∙ paste_all c.args.list.now at items (length items) refl
+    ∙ sym (sets-eq items c.args.list.now at c.requires ∙ append_assoc (take at c.args.list.now) items _)

@@ -1,7 +1,5 @@
 -- `soundness::entries_sound` meets its contract: the entries passed so far are sound and marked.
-use mathlib.Core.Path.{◌≡◌}
-use Prim.Native.Nat.{◌-◌}
-use lib.ListN.{length}
+use Rattle.std.proofs.Common.{◌≡◌, ◌-◌, length}
 use Rattle.soundness.proofs.EntryByEntry.{EntriesPassed}
 use Rattle.soundness.proofs.entries_sound.Given as goal
 

@@ -20,16 +20,16 @@ bounds-diagram-0 c = omega (arith, (opened (goal.at.bounds-diagram-0 c).Else-not
 pub entries_sound-requires : goal.entries_sound-requires
 entries_sound-requires c = record {
   opened = opened (goal.at.entries_sound-requires c).Else-not-header_sound;
-  unmarked = record { none = refl; room = c.if-diagram-le-SMALL.true };
+  unmarked = record { none = refl; room = omega arith };
 }
 
-pub entries_sound-requires-else-diagram-le-SMALL : goal.entries_sound-requires-else-diagram-le-SMALL
-entries_sound-requires-else-diagram-le-SMALL c =
-    let o = opened (goal.at.entries_sound-requires-else-diagram-le-SMALL c).Else-not-header_sound in
+pub entries_sound-requires-else-from-le-SMALL : goal.entries_sound-requires-else-from-le-SMALL
+entries_sound-requires-else-from-le-SMALL c =
+    let o = opened (goal.at.entries_sound-requires-else-from-le-SMALL c).Else-not-header_sound in
     record { opened = o; unmarked = record { none = refl; room = o.used_most } }
 
-pub returns-then-diagram-le-SMALL : goal.returns-then-diagram-le-SMALL
-returns-then-diagram-le-SMALL c = sound_is c.args.diagram.now c.entries_sound.result c.entries_sound.ensures
+pub returns-then-from-le-SMALL : goal.returns-then-from-le-SMALL
+returns-then-from-le-SMALL c = sound_is c.args.diagram.now c.entries_sound.result c.entries_sound.ensures
 
-pub returns-else-diagram-le-SMALL : goal.returns-else-diagram-le-SMALL
-returns-else-diagram-le-SMALL c = sound_is c.args.diagram.now c.entries_sound-else-diagram-le-SMALL.result c.entries_sound-else-diagram-le-SMALL.ensures
+pub returns-else-from-le-SMALL : goal.returns-else-from-le-SMALL
+returns-else-from-le-SMALL c = sound_is c.args.diagram.now c.entries_sound-else-from-le-SMALL.result c.entries_sound-else-from-le-SMALL.ensures

@@ -9,74 +9,74 @@ use Rattle.listing.proofs.Writing.{Partly, partly_none, partly_first, partly_mor
 use Rattle.listing.specs.Paths.{path_from, path_of}
 use Rattle.listing.specs.Text.{space, range, ranges}
 use Rattle.listing.proofs.lines.put_path.Goals as goal
-use Rattle.listing.proofs.lines.put_path.Goals.{At-loop-field, In-loop-field, After-first_of-low}
+use Rattle.listing.proofs.lines.put_path.Goals.{At-loop-value, In-loop-value, After-first_of-low}
 
 -- after the last field
-ended : (c : At-loop-field) → fields ≤ c.loop-field.field →
-    Partly c.args.text.now c.args.at (ranges (path_of c.args.diagram.now c.args.values)) c.loop-field.text c.loop-field.end []
+ended : (c : At-loop-value) → fields ≤ c.loop-value.value-index →
+    Partly c.args.text.now c.args.at (ranges (path_of c.args.diagram.now c.args.values)) c.loop-value.text c.loop-value.end []
 ended c l =
     let long : length c.args.values ≡ fields = omega arith in
-    rw (← (ranges_end c.args.diagram.now c.args.values c.loop-field.place c.loop-field.field (omega (arith, long)))) c.loop-field.invariant.1
+    rw (← (ranges_end c.args.diagram.now c.args.values c.loop-value.place c.loop-value.value-index (omega (arith, long)))) c.loop-value.invariant.1
 
 -- the edge that the field's value asks for
-asked : (c : In-loop-field) → EdgeAsked c.args.diagram.now c.loop-field.place (value c.args.values c.loop-field.field)
+asked : (c : In-loop-value) → EdgeAsked c.args.diagram.now c.loop-value.place (value c.args.values c.loop-value.value-index)
 asked c =
-    let f = c.loop-field.field in
-    edge_asked c.args.diagram.now c.requires.sound c.loop-field.place f c.loop-field.invariant.0.entry c.loop-field-test.true _ (c.requires.within f c.loop-field-test.true)
+    let f = c.loop-value.value-index in
+    edge_asked c.args.diagram.now c.requires.sound c.loop-value.place f c.loop-value.invariant.0.entry c.loop-value-test.true _ (c.requires.within f c.loop-value-test.true)
 
 -- the bytes left before a field: its range, a space, and the ranges of the fields after it
-next : (c : After-first_of-low) → let d = c.args.diagram.now in let p = c.loop-field.place in let q = c.args.values in let j = c.edge_of-edge.result in
-    ranges (path_from d p (drop c.loop-field.field q)) ≡ range c.first_of-low.result (last_at d p j) ++ space ∷ ranges (path_from d (child_at d p j) (drop (c.loop-field.field + 1) q))
+next : (c : After-first_of-low) → let d = c.args.diagram.now in let p = c.loop-value.place in let q = c.args.values in let j = c.edge_of-edge.result in
+    ranges (path_from d p (drop c.loop-value.value-index q)) ≡ range c.first_of-low.result (last_at d p j) ++ space ∷ ranges (path_from d (child_at d p j) (drop (c.loop-value.value-index + 1) q))
 next c =
     let long : length c.args.values ≡ fields = omega arith in
-    ranges_next c.args.diagram.now c.args.values c.loop-field.place c.loop-field.field _ c.edge_of-edge.result c.first_of-low.result (omega (arith, long, c.loop-field-test.true)) refl c.edge_of-edge.ensures.0 c.first_of-low.ensures.0
+    ranges_next c.args.diagram.now c.args.values c.loop-value.place c.loop-value.value-index _ c.edge_of-edge.result c.first_of-low.result (omega (arith, long, c.loop-value-test.true)) refl c.edge_of-edge.ensures.0 c.first_of-low.ensures.0
 
 pub bounds-diagram-1 : goal.bounds-diagram-1
 bounds-diagram-1 c = omega (arith, c.requires.sound.header_there)
 
-pub loop-field-init : goal.loop-field-init
-loop-field-init c = (down_none c.args.diagram.now c.requires.sound c.args.values c.requires.within _ refl, partly_none refl)
+pub loop-value-init : goal.loop-value-init
+loop-value-init c = (down_none c.args.diagram.now c.requires.sound c.args.values c.requires.within _ refl, partly_none refl)
 
 pub edge_of-edge-requires : goal.edge_of-edge-requires
 edge_of-edge-requires c =
-    let a = asked (goal.at.edge_of-edge-requires c).In-loop-field in
+    let a = asked (goal.at.edge_of-edge-requires c).In-loop-value in
     record { place_lt_most_places = a.0; sound_node = a.1.0; value_bound = a.1.1 }
 
 pub first_of-low-requires : goal.first_of-low-requires
 first_of-low-requires c =
-    let a = asked (goal.at.first_of-low-requires c).In-loop-field in
+    let a = asked (goal.at.first_of-low-requires c).In-loop-value in
     (a.0.0, c.edge_of-edge.ensures.1, a.0.1)
 
 pub bounds-diagram-place : goal.bounds-diagram-place
 bounds-diagram-place c =
-    let a = asked (goal.at.bounds-diagram-place c).In-loop-field in
+    let a = asked (goal.at.bounds-diagram-place c).In-loop-value in
     omega (arith, a.0.1, c.edge_of-edge.ensures.1)
 
 pub put_range-end-requires : goal.put_range-end-requires
 put_range-end-requires c =
     let n = next (goal.at.put_range-end-requires c).After-first_of-low in
-    partly_first c.loop-field.invariant.1 (range c.first_of-low.result (last_at c.args.diagram.now c.loop-field.place c.edge_of-edge.result)) _ n c.requires.room_for
+    partly_first c.loop-value.invariant.1 (range c.first_of-low.result (last_at c.args.diagram.now c.loop-value.place c.edge_of-edge.result)) _ n c.requires.room_for
 
 pub put-end-requires : goal.put-end-requires
 put-end-requires c =
     let n = next (goal.at.put-end-requires c).After-first_of-low in
-    let ranged = partly_more c.loop-field.invariant.1 n c.put_range-end.ensures in
+    let ranged = partly_more c.loop-value.invariant.1 n c.put_range-end.ensures in
     partly_first ranged (space ∷ []) _ refl c.requires.room_for
 
-pub bounds-diagram-place-in-loop-field : goal.bounds-diagram-place-in-loop-field
-bounds-diagram-place-in-loop-field c =
-    let a = asked (goal.at.bounds-diagram-place-in-loop-field c).In-loop-field in
+pub bounds-diagram-place-in-loop-value : goal.bounds-diagram-place-in-loop-value
+bounds-diagram-place-in-loop-value c =
+    let a = asked (goal.at.bounds-diagram-place-in-loop-value c).In-loop-value in
     omega (arith, a.0.1, c.edge_of-edge.ensures.1)
 
-pub loop-field-preserved : goal.loop-field-preserved
-loop-field-preserved c =
+pub loop-value-preserved : goal.loop-value-preserved
+loop-value-preserved c =
     let d = c.args.diagram.now in
     let q = c.args.values in
-    let p = c.loop-field.place in
+    let p = c.loop-value.place in
     let long : length c.args.values ≡ fields = omega arith in
-    let n = next (goal.at.loop-field-preserved c).After-first_of-low in
-    let ranged = partly_more c.loop-field.invariant.1 n c.put_range-end.ensures in (
-      down_more d c.requires.sound q c.requires.within p c.loop-field.field c.loop-field.invariant.0 c.loop-field-test.true (omega (arith, long, c.loop-field-test.true)) _ _ refl
+    let n = next (goal.at.loop-value-preserved c).After-first_of-low in
+    let ranged = partly_more c.loop-value.invariant.1 n c.put_range-end.ensures in (
+      down_more d c.requires.sound q c.requires.within p c.loop-value.value-index c.loop-value.invariant.0 c.loop-value-test.true (omega (arith, long, c.loop-value-test.true)) _ _ refl
           (ap (child_at d p) c.edge_of-edge.ensures.0),
       partly_more ranged refl c.put-end.ensures,
     )
@@ -85,6 +85,6 @@ pub returns : goal.returns
 returns c =
     let long : length c.args.values ≡ fields = omega arith in
     record {
-      landed = landed c.args.diagram.now c.requires.sound c.args.values c.requires.within c.loop-field.place c.loop-field.field c.loop-field.invariant.0 c.loop-field-test.false long;
-      written = partly_all (ended (goal.at.returns c).At-loop-field c.loop-field-test.false) refl;
+      landed = landed c.args.diagram.now c.requires.sound c.args.values c.requires.within c.loop-value.place c.loop-value.value-index c.loop-value.invariant.0 c.loop-value-test.false long;
+      written = partly_all (ended (goal.at.returns c).At-loop-value c.loop-value-test.false) refl;
     }

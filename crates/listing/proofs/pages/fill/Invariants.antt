@@ -3,8 +3,8 @@ use Rattle.listing.proofs.Filling.{Filling}
 use Rattle.listing.proofs.RequestsLeft.{requests_left}
 use Rattle.listing.proofs.pages.fill.Given as goal
 
-abbrev pub invariant-loop-after : goal.invariant-loop-after
-invariant-loop-after l = Filling l.diagram l.initial.request l.initial.text l.at l.text l.request l.end
+abbrev pub invariant-loop-following : goal.invariant-loop-following
+invariant-loop-following l = Filling l.diagram l.initial.request l.initial.text l.at l.text l.request l.end
 
-abbrev pub decreases-loop-after : goal.decreases-loop-after
-decreases-loop-after l = requests_left l.request
+abbrev pub decreases-loop-following : goal.decreases-loop-following
+decreases-loop-following l = requests_left l.request

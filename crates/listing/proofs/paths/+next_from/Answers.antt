@@ -1,9 +1,9 @@
 -- `paths::next_from`, which calls itself, meets its contract.
-use Rattle.std.proofs.Common.{◌≡◌, ◌<◌, refl, ℕ, length, arith}
+use Rattle.std.proofs.Common.{◌≡◌, ◌<◌, refl, sym, ◌∙◌, ℕ, length, arith, rules}
 use Rattle.answer.specs.Fields.{fields}
 use Rattle.answer.specs.Requests.{value}
 use Rattle.diagram.proofs.Descent.{EdgeAsked, edge_asked, child_here}
-use Rattle.listing.proofs.NextPath.{no_field_left, moves_below, moves_on, starts_over}
+use Rattle.listing.proofs.NextPath.{no_field_left, moves_below, moves_on, nothing_follows, zeros_after}
 use Rattle.listing.proofs.paths.+next_from.Goals as goal
 use Rattle.listing.proofs.paths.+next_from.Goals.{Else-field-eq-FIELDS}
 
@@ -21,8 +21,7 @@ module _ (t : ℕ) (c : Else-field-eq-FIELDS t) where
 pub returns-then-field-eq-FIELDS : goal.returns-then-field-eq-FIELDS
 returns-then-field-eq-FIELDS t c =
     let long : length c.args.values ≡ fields = omega arith in
-    let h = no_field_left c.args.diagram.now c.args.values c.args.place c.args.field (omega (arith, long, c.if-field-eq-FIELDS.true)) in
-    record { more_value = h.0; values_value = h.1 }
+    no_field_left c.args.diagram.now c.args.values c.args.place c.args.field (omega (arith, long, c.if-field-eq-FIELDS.true))
 
 pub edge_of-edge-requires : goal.edge_of-edge-requires
 edge_of-edge-requires t c =
@@ -40,12 +39,11 @@ next_from-below-requires t c =
     let e = child_here c.args.diagram.now c.requires.sound c.args.place c.args.field c.requires.entry_before.0 l _ (c.requires.within c.args.field l) in
     (omega (arith, c.decreases, l), (c.requires.sound, (c.requires.within, (rw (← c.edge_of-edge.ensures.0) at e, omega (arith, l)))))
 
-pub returns-then-below : goal.returns-then-below
-returns-then-below t c =
-    let h = moves_below c.args.diagram.now c.args.values c.args.place c.args.field _ c.edge_of-edge.result _
-    (left_here t (goal.at.returns-then-below t c).Else-field-eq-FIELDS) refl c.edge_of-edge.ensures.0 refl
-    c.next_from-below.result.more c.next_from-below.result.values (c.next_from-below.ensures.more_value, c.next_from-below.ensures.values_value) c.if-below.true in
-    record { more_value = h.0; values_value = h.1 }
+pub returns-then-is_some : goal.returns-then-is_some
+returns-then-is_some t c =
+    moves_below c.args.diagram.now c.args.values c.args.place c.args.field _ c.edge_of-edge.result _
+    (left_here t (goal.at.returns-then-is_some t c).Else-field-eq-FIELDS) refl c.edge_of-edge.ensures.0 refl
+    c.next_from-below.result c.next_from-below.ensures (sym c.is_some.ensures ∙ c.if-is_some.true)
 
 pub first_of-requires : goal.first_of-requires
 first_of-requires t c =
@@ -54,16 +52,16 @@ first_of-requires t c =
 
 pub returns-then-edge-diagram : goal.returns-then-edge-diagram
 returns-then-edge-diagram t c =
-    let h = moves_on c.args.diagram.now c.args.values c.args.place c.args.field _ c.edge_of-edge.result _
+    moves_on c.args.diagram.now c.args.values c.args.place c.args.field _ c.edge_of-edge.result _
     (left_here t (goal.at.returns-then-edge-diagram t c).Else-field-eq-FIELDS) refl c.edge_of-edge.ensures.0 refl
-    c.next_from-below.result.more c.next_from-below.result.values (c.next_from-below.ensures.more_value, c.next_from-below.ensures.values_value) c.if-below.false
-    (omega (arith, c.if-edge-diagram.true)) c.first_of.result c.first_of.ensures.0 in
-    record { more_value = h.0; values_value = h.1 }
+    c.next_from-below.result c.next_from-below.ensures (sym c.is_some.ensures ∙ c.if-is_some.false)
+    (omega (arith, c.if-edge-diagram.true)) c.first_of.result c.first_of.ensures.0 _
+    (zeros_after c.args.values c.fill.new.self c.args.field _ c.first_of.result (left_here t (goal.at.returns-then-edge-diagram t c).Else-field-eq-FIELDS) (let long : length c.args.values ≡ fields = omega arith in omega (arith, long))
+    (c.fill.ensures.after (λ y h. search rules) ∙ search rules))
 
 pub returns : goal.returns
 returns t c =
-    let h = starts_over c.args.diagram.now c.args.values c.args.place c.args.field _ c.edge_of-edge.result _
+    nothing_follows c.args.diagram.now c.args.values c.args.place c.args.field _ c.edge_of-edge.result _
     (left_here t (goal.at.returns t c).Else-field-eq-FIELDS) refl c.edge_of-edge.ensures.0 refl
-    c.next_from-below.result.more c.next_from-below.result.values (c.next_from-below.ensures.more_value, c.next_from-below.ensures.values_value) c.if-below.false
-    (omega (arith, c.if-edge-diagram.false)) in
-    record { more_value = h.0; values_value = h.1 }
+    c.next_from-below.result c.next_from-below.ensures (sym c.is_some.ensures ∙ c.if-is_some.false)
+    (omega (arith, c.if-edge-diagram.false))

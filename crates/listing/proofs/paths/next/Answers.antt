@@ -1,16 +1,17 @@
 -- `listing::paths::next` meets its contract.
-use Rattle.std.proofs.Common.{◌≡◌, length, arith}
+use Rattle.std.proofs.Common.{◌≡◌, ap, ◌∙◌, length, arith}
 use Rattle.answer.specs.Fields.{fields}
-use Rattle.listing.proofs.NextIsLater.{next_is_later, after_is}
-use Rattle.listing.specs.Paths.{next_of}
+use Rattle.answer.specs.Answers.{zeros}
+use Rattle.diagram.specs.Layout.{root}
+use Rattle.listing.proofs.NextIsLater.{later_where_some, after_request}
+use Rattle.listing.proofs.NextPath.{zeros_at_end}
+use Rattle.listing.specs.Paths.{after, next_of}
 use Rattle.listing.proofs.paths.next.Goals as goal
 
 pub returns : goal.returns
 returns c =
-    let n : length c.args.values ≡ fields = omega arith in
-    let e : c.next_from.result ≡ next_of c.args.diagram.now c.args.values =
-    after_is c.next_from.result (next_of c.args.diagram.now c.args.values) (c.next_from.ensures.more_value, c.next_from.ensures.values_value) in
-    record {
-      value = e;
-      later = λ m. next_is_later c.args.diagram.now c.requires.sound c.args.values c.next_from.result n c.requires.within e m;
-    }
+    let d = c.args.diagram.now in
+    let q = c.args.values in
+    let n : length q ≡ fields = omega arith in
+    let e : after c.next_from.result ≡ next_of d q = ap after c.next_from.ensures ∙ after_request (next_of d q) (λ z. zeros_at_end d q (root d) z ∙ ap zeros n) in
+    record { value = e; later = later_where_some d c.requires.sound q c.next_from.result n c.requires.within e }
