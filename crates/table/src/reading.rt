@@ -15,7 +15,7 @@ use crate::open_node::{OpenNode, depth_above};
 use answer::{Answer, FIELDS, Refusal, Refused};
 use combining::Kind;
 use encoding::layout::{
-    LEVELS, NODES, VERSION, card_at, count_at, header_size, high_at, kind_at, low_at, maximum_at,
+    LEVELS, NODES, Range, VERSION, card_at, count_at, header_size, kind_at, maximum_at, range_at,
     span_at, start_of, word_at,
 };
 
@@ -97,7 +97,8 @@ fn range_fault(table: &[u8], i: usize, field: usize) -> bool
     ensures { result ≡ range_fault table.now i field }
 {
     let maximum = maximum_at(table, field);
-    maximum < low_at(table, i, field) || maximum < high_at(table, i, field)
+    let Range { low, high } = range_at(table, i, field);
+    maximum < low || maximum < high
 }
 
 // Refusal 7: a low or a high over the maximum.
