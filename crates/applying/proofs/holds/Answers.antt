@@ -4,6 +4,6 @@ use Rattle.targets.proofs.TargetFromWord.{range_from}
 use Rattle.applying.proofs.holds.Goals as goal
 
 pub returns : goal.returns
-returns c = c.byte_in_range.ensures
-    ∙ range_from c.args.table.now c.args.i c.ranges_at-ranges.result c.ranges_at-ranges.ensures.reads_back c.args.field c.low_of.result c.high_of.result c.args.value
-    c.requires.1 c.low_of.ensures c.high_of.ensures
+returns c = c.in_range.ensures
+    ∙ range_from c.args.table.now c.args.i c.ranges_at-ranges.result c.ranges_at-ranges.ensures.reads_back c.args.field c.range_of.result.low
+    c.range_of.result.high c.args.value c.requires.1 c.range_of.ensures.0 c.range_of.ensures.1
