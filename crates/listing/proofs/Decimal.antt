@@ -9,8 +9,9 @@ use borrow.Author.Tests.{lt-ltb, le-ltb, ltb-true, ltb-false}
 use lib.Dec.{ltb}
 use lib.ListN.{length, length-append}
 use Rattle.listing.specs.Text.{decimal_up_to, decimal}
-use Rattle.listing.specs.Written.{RoomFor, Written}
-use Rattle.listing.proofs.Writing.{room_first, room_rest, written_as, written_join}
+use Rattle.listing.specs.declared.text.Text.{Text}
+use Rattle.listing.specs.Written.{HasRoom, Puts}
+use Rattle.listing.proofs.Writing.{room_first, puts_room, puts_as, puts_join}
 
 -- one step of the digits, by whether the number is one digit
 step : (k n : ℕ) (b : Bool) → ltb n 10 ≡ b → decimal_up_to (suc k) n ≡ cond b ((48 + n) ∷ []) (decimal_up_to k (n / 10) ++ (48 + n % 10) ∷ [])
@@ -60,19 +61,19 @@ decimal_short (suc k) n h = by (ltb n 10) refl (decimal_short k (n / 10))
 
 module _ (n : ℕ) where
   -- a digit is written
-  pub digit_room : (t : List ℕ) (a : ℕ) → n < 10 → RoomFor t a (decimal n) → RoomFor t a ((48 + n) ∷ [])
-  digit_room t a h r = subst (RoomFor t a) (decimal_digit n h) r
+  pub digit_room : (t : Text) → n < 10 → HasRoom t (decimal n) → HasRoom t ((48 + n) ∷ [])
+  digit_room t h r = subst (HasRoom t) (decimal_digit n h) r
 
-  pub digit_written : n < 10 → {t u : List ℕ} {a b : ℕ} → Written t u a b ((48 + n) ∷ []) → Written t u a b (decimal n)
-  digit_written h w = written_as w (sym (decimal_digit n h))
+  pub digit_written : n < 10 → {t u : Text} → Puts t u ((48 + n) ∷ []) → Puts t u (decimal n)
+  digit_written h p = puts_as p (sym (decimal_digit n h))
 
   -- the digits of a tenth are written, and the last one
-  pub tenth_room : (t : List ℕ) (a : ℕ) → 10 ≤ n → RoomFor t a (decimal n) → RoomFor t a (decimal (n / 10))
-  tenth_room t a h r = room_first t a (decimal (n / 10)) ((48 + n % 10) ∷ []) (subst (RoomFor t a) (decimal_more n h) r)
+  pub tenth_room : (t : Text) → 10 ≤ n → HasRoom t (decimal n) → HasRoom t (decimal (n / 10))
+  tenth_room t h r = room_first t.bytes.now t.end (decimal (n / 10)) ((48 + n % 10) ∷ []) (subst (HasRoom t) (decimal_more n h) r)
 
-  module _ (h : 10 ≤ n) {t u : List ℕ} {a b : ℕ} (w : Written t u a b (decimal (n / 10))) where
-    pub last_room : RoomFor t a (decimal n) → RoomFor u b ((48 + n % 10) ∷ [])
-    last_room r = room_rest w ((48 + n % 10) ∷ []) (subst (RoomFor t a) (decimal_more n h) r)
+  module _ (h : 10 ≤ n) {t u : Text} (p : Puts t u (decimal (n / 10))) where
+    pub last_room : HasRoom t (decimal n) → HasRoom u ((48 + n % 10) ∷ [])
+    last_room r = puts_room p ((48 + n % 10) ∷ []) (subst (HasRoom t) (decimal_more n h) r)
 
-    pub last_written : {v : List ℕ} {e : ℕ} → Written u v b e ((48 + n % 10) ∷ []) → Written t v a e (decimal n)
-    last_written x = written_as (written_join w ((48 + n % 10) ∷ []) x) (sym (decimal_more n h))
+    pub last_written : {v : Text} → Puts u v ((48 + n % 10) ∷ []) → Puts t v (decimal n)
+    last_written q = puts_as (puts_join p ((48 + n % 10) ∷ []) q) (sym (decimal_more n h))

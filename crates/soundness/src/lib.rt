@@ -9,6 +9,8 @@ ghost use Rattle.diagram.specs.Decided.{yes?, Decides};
 ghost use Rattle.diagram.specs.SoundIsDecided.{sound?};
 ghost use Rattle.soundness.specs.Pass.{Whole, EntriesMarked, Opened, Unmarked};
 
+pub mod checked;
+
 use answer::FIELDS;
 use combining::Decision;
 use diagram::layout::{edges_of, size_at};

@@ -2,6 +2,7 @@
 #![tactic(auto)]
 
 pub mod levels;
+mod open_node;
 pub mod reading;
 
 pub use reading::read;

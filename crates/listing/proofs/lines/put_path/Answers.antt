@@ -13,7 +13,7 @@ use Rattle.listing.proofs.lines.put_path.Goals.{At-loop-value, In-loop-value, Af
 
 -- after the last field
 ended : (c : At-loop-value) → fields ≤ c.loop-value.value-index →
-    Partly c.args.text.now c.args.at (ranges (path_of c.args.diagram.now c.args.values)) c.loop-value.text c.loop-value.end []
+    Partly c.args.text.now (ranges (path_of c.args.diagram.now c.args.values)) c.loop-value.text []
 ended c l =
     let long : length c.args.values ≡ fields = omega arith in
     rw (← (ranges_end c.args.diagram.now c.args.values c.loop-value.place c.loop-value.value-index (omega (arith, long)))) c.loop-value.invariant.1
@@ -52,15 +52,15 @@ bounds-diagram-place c =
     let a = asked (goal.at.bounds-diagram-place c).In-loop-value in
     omega (arith, a.0.1, c.edge_of-edge.ensures.1)
 
-pub put_range-end-requires : goal.put_range-end-requires
-put_range-end-requires c =
-    let n = next (goal.at.put_range-end-requires c).After-first_of-low in
+pub put_range-requires : goal.put_range-requires
+put_range-requires c =
+    let n = next (goal.at.put_range-requires c).After-first_of-low in
     partly_first c.loop-value.invariant.1 (range c.first_of-low.result (last_at c.args.diagram.now c.loop-value.place c.edge_of-edge.result)) _ n c.requires.room_for
 
-pub put-end-requires : goal.put-end-requires
-put-end-requires c =
-    let n = next (goal.at.put-end-requires c).After-first_of-low in
-    let ranged = partly_more c.loop-value.invariant.1 n c.put_range-end.ensures in
+pub put-requires : goal.put-requires
+put-requires c =
+    let n = next (goal.at.put-requires c).After-first_of-low in
+    let ranged = partly_more c.loop-value.invariant.1 n c.put_range.ensures in
     partly_first ranged (space ∷ []) _ refl c.requires.room_for
 
 pub bounds-diagram-place-in-loop-value : goal.bounds-diagram-place-in-loop-value
@@ -75,10 +75,10 @@ loop-value-preserved c =
     let p = c.loop-value.place in
     let long : length c.args.values ≡ fields = omega arith in
     let n = next (goal.at.loop-value-preserved c).After-first_of-low in
-    let ranged = partly_more c.loop-value.invariant.1 n c.put_range-end.ensures in (
+    let ranged = partly_more c.loop-value.invariant.1 n c.put_range.ensures in (
       down_more d c.requires.sound q c.requires.within p c.loop-value.value-index c.loop-value.invariant.0 c.loop-value-test.true (omega (arith, long, c.loop-value-test.true)) _ _ refl
           (ap (child_at d p) c.edge_of-edge.ensures.0),
-      partly_more ranged refl c.put-end.ensures,
+      partly_more ranged refl c.put.ensures,
     )
 
 pub returns : goal.returns
@@ -86,5 +86,5 @@ returns c =
     let long : length c.args.values ≡ fields = omega arith in
     record {
       landed = landed c.args.diagram.now c.requires.sound c.args.values c.requires.within c.loop-value.place c.loop-value.value-index c.loop-value.invariant.0 c.loop-value-test.false long;
-      written = partly_all (ended (goal.at.returns c).At-loop-value c.loop-value-test.false) refl;
+      puts = partly_all (ended (goal.at.returns c).At-loop-value c.loop-value-test.false) refl;
     }

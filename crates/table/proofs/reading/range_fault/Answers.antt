@@ -1,16 +1,17 @@
--- `table::reading::range_fault` meets its contract: each branch gives refusal 7's test in the field.
+-- `table::reading::range_fault` meets its contract: it is refusal 7's test in the field.
 use Rattle.encoding.proofs.Places.{node_header}
 use Rattle.table.proofs.Faults.{range_low, range_high}
-use Rattle.std.proofs.Common.{arith}
+use Rattle.std.proofs.Common.{◌∙◌}
+use borrow.Author.Tests.{lt-ltb}
 use Rattle.table.proofs.reading.range_fault.Goals as goal
 
 pub maximum_at-maximum-requires : goal.maximum_at-maximum-requires
 maximum_at-maximum-requires c = (node_header c.args.table.now c.args.i c.requires.node_held, c.requires.field_lt_fields)
 
-pub returns-then-maximum-low : goal.returns-then-maximum-low
-returns-then-maximum-low c = range_low c.args.table.now c.args.i c.args.field c.maximum_at-maximum.result c.low_at-low.result c.maximum_at-maximum.ensures c.low_at-low.ensures
-    (omega (arith, c.if-maximum-low.true))
+pub returns-then-maximum-low_at : goal.returns-then-maximum-low_at
+returns-then-maximum-low_at c =
+    lt-ltb _ _ c.if-maximum-low_at.true
+    ∙ range_low c.args.table.now c.args.i c.args.field _ _ c.maximum_at-maximum.ensures c.low_at.ensures c.if-maximum-low_at.true
 
-pub returns-else-maximum-low : goal.returns-else-maximum-low
-returns-else-maximum-low c = range_high c.args.table.now c.args.i c.args.field c.maximum_at-maximum.result c.low_at-low.result c.maximum_at-maximum.ensures c.low_at-low.ensures
-    c.high_at-high.result c.high_at-high.ensures (omega (arith, c.if-maximum-low.false))
+pub returns-else-maximum-low_at : goal.returns-else-maximum-low_at
+returns-else-maximum-low_at c = range_high c.args.table.now c.args.i c.args.field _ _ c.maximum_at-maximum.ensures c.low_at.ensures _ c.high_at.ensures c.if-maximum-low_at.false
