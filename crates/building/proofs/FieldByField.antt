@@ -16,6 +16,7 @@ use Rattle.encoding.proofs.Places.{header_held}
 use Rattle.encoding.proofs.Maxima.{maxima_length, maxima_each}
 use Rattle.targets.specs.Closed.{Closed}
 use Rattle.applying.specs.Members.{member, ruling_from}
+use Rattle.applying.specs.declared.Run.{Run}
 use Rattle.applying.specs.Filled.{set_at, run_end, Filled}
 use Rattle.applying.proofs.MembersAreClosed.{member_closed, meet_closed, has_closed}
 use Rattle.diagram.specs.Walk.{Entries, Entered, given, walk}
@@ -64,7 +65,7 @@ pub record ValueRun (t : List ℕ) (nodes : Set) (field v until : ℕ) (here : S
   pub alike : (u : ℕ) → v ≤ u → u ≤ until → (u ≤ maximum t field) × ((i : ℕ) → member t field u i ≡ member t field v i)
 
 -- by what is filled in for the field
-pub value_run : {t : List ℕ} (sets : List (List (List ℕ))) (field : ℕ) {v until : ℕ} {nodes : Set} (own : Set) {here : Set} → Filled t sets → field < fields →
+pub value_run : {t : List ℕ} (sets : List (List Run)) (field : ℕ) {v until : ℕ} {nodes : Set} (own : Set) {here : Set} → Filled t sets → field < fields →
     v ≤ maximum t field → own ≡ set_at (get_or sets field []) v → Has here (λ i. has nodes i && has own i) → until ≡ run_end (get_or sets field []) v → v ≤ until →
     ValueRun t nodes field v until here
 value_run sets field {v} {nodes} own full l more is meets ends far =

@@ -21,6 +21,7 @@ use Rattle.table.specs.WellFormed.{WellFormed}
 use Rattle.encoding.proofs.Maxima.{maxima_length}
 use Rattle.ruling.specs.Ruling.{groups}
 use Rattle.applying.specs.Members.{ruling_from}
+use Rattle.applying.specs.declared.Run.{Run}
 use Rattle.applying.specs.Filled.{SetRows}
 use Rattle.applying.proofs.NodesApplyByFields.{ruling_is}
 use Rattle.diagram.specs.Layout.{header, most_places}
@@ -41,11 +42,11 @@ use Rattle.building.proofs.BuildAnswers.{TooLarge, Settled, too_large_lem, fits}
 use Rattle.building.proofs.Written.{head_of, over_zeros}
 
 -- rows that are as long as they must be, one for each field, before any set is in them
-pub no_sets : (row : List (List ℕ)) → length row ≡ 256 → SetRows (replicate fields row)
+pub no_sets : (row : List Run) → length row ≡ 256 → SetRows (replicate fields row)
 no_sets row e =
     record {
-      number = length-replicate {A = List (List ℕ)} fields row;
-      long = λ f l. ap length (get_or-replicate {A = List (List ℕ)} fields f row [] l) ∙ e;
+      number = length-replicate {A = List Run} fields row;
+      long = λ f l. ap length (get_or-replicate {A = List Run} fields f row [] l) ∙ e;
     }
 
 -- Before the first field every node is possible.

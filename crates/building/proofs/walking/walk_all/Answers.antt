@@ -9,7 +9,7 @@ use Rattle.building.proofs.walking.walk_all.Goals as goal
 pub fill-requires : goal.fill-requires
 fill-requires c = record {
   well_formed = c.requires.well_formed;
-  set_rows = no_sets (replicate 256 (zeros 3)) refl;
+  set_rows = no_sets (replicate 256 _) refl;
 }
 
 pub walk-requires : goal.walk-requires
