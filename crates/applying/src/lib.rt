@@ -34,6 +34,7 @@ fn holds(table: &[u8], field: usize, value: u8, i: usize) -> bool
 }
 
 // The nodes that apply in a field alone at a value: a node whose range fails is skipped with all nodes under it.
+#[tactic(auto, using(encoding::proofs::Places::header_held, ruling::proofs::Steps::held))]
 pub fn members(table: &[u8], field: usize, value: u8) -> Set
     requires well_formed { WellFormed table.now }
     requires field_lt_fields { field < fields }
@@ -55,6 +56,7 @@ pub fn members(table: &[u8], field: usize, value: u8) -> Set
 }
 
 // The sets of one field, for each of its values: each value is a run of its own.
+#[tactic(auto, using(encoding::proofs::Places::header_held))]
 fn fill_values(table: &[u8], field: usize, row: &mut [Run; VALUES])
     requires well_formed { WellFormed table.now }
     requires field_lt_fields { field < fields }
@@ -87,6 +89,7 @@ fn mark_runs(row: &mut [Run; VALUES], most: usize)
 }
 
 // The sets of one field, and its runs.
+#[tactic(auto, using(encoding::proofs::Places::header_held))]
 fn fill_field(table: &[u8], field: usize, row: &mut [Run; VALUES])
     requires well_formed { WellFormed table.now }
     requires field_lt_fields { field < fields }
