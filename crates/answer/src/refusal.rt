@@ -37,6 +37,18 @@ impl From<Refusal> for u8 {
     }
 }
 
+impl Refusal {
+    // The refusal at a place.
+    pub fn at(self, place: usize) -> Refused
+        ensures { result ≡ record { refusal = self; place = place } }
+    {
+        Refused {
+            refusal: self,
+            place,
+        }
+    }
+}
+
 // A refusal with the place that its answer gives: a node, a field, or 0.
 #[derive(Clone, Copy, PartialEq, Eq)]
 pub struct Refused {
