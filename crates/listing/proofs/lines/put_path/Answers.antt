@@ -3,7 +3,7 @@ use Rattle.std.proofs.Common.{◌≡◌, ◌∙◌, ◌+◌, ◌≤◌, refl, sy
 use Rattle.answer.specs.Fields.{fields}
 use Rattle.answer.specs.Requests.{value}
 use Rattle.diagram.proofs.Descent.{EdgeAsked, down_none, edge_asked, down_more, landed}
-use Rattle.diagram.specs.Layout.{last_at, child_at}
+use Rattle.diagram.specs.Layout.{child_at}
 use Rattle.listing.proofs.PathRanges.{ranges_next, ranges_end}
 use Rattle.listing.proofs.Writing.{Partly, partly_none, partly_first, partly_more, partly_all}
 use Rattle.listing.specs.Paths.{path_from, path_of}
