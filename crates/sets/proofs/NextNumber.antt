@@ -128,8 +128,8 @@ module _ (w i r : ℕ) (lw : w < 2 ^ 64) (n : Next 64 (bit (w / 2 ^ i)) 0 r) (l 
 
 -- of a set: of the low word, or of the high one where that has none
 
-module _ (s : Set) (i : ℕ) (most : i ≤ 128) where
-  next_low : (a : ℕ) → Next 64 (bit s.low) i a × (a < 64) → Next 128 (has s) i a × (a < 128)
+module _ (s : Set) (i : ℕ) where
+  pub next_low : (a : ℕ) → Next 64 (bit s.low) i a × (a < 64) → Next 128 (has s) i a × (a < 128)
   next_low a (h, l) = (
     record {
       from = h.from;
@@ -140,27 +140,30 @@ module _ (s : Set) (i : ℕ) (most : i ≤ 128) where
     omega arith,
   )
 
+  -- where the low word has none from i up
   module _ (none : (j : ℕ) → i ≤ j → j < 64 → bit s.low j ≡ false) where
     -- up to number n, below which the high word has none
     none_up : (n : ℕ) → ((j : ℕ) → i - 64 ≤ j → j < n - 64 → bit s.high j ≡ false) → (j : ℕ) → i ≤ j → j < n → has s j ≡ false
     none_up n k j lj lk =
         ⊎_elim (λ (l : j < 64). has_low s j l ∙ none j lj l) (λ (l : 64 ≤ j). has_high s j l ∙ k (j - 64) (omega arith) (omega arith)) (lt_or_ge j 64)
 
-    next_high : (r : Option ℕ) → NextOrNone 64 (bit s.high) (i - 64) r → NextOrNone 128 (has s) i (option_map (λ p. 64 + p) r)
-    next_high None k = none_up 128 k
-    next_high (Some b) (h, l) =
-        let z : 64 + b - 64 ≡ b = omega arith in (
+    pub next_high : (k : ℕ) → i - 64 ≡ k → i ≤ 64 + k → (high r : Option ℕ) → NextOrNone 64 (bit s.high) k high → r ≡ option_map (λ p. 64 + p) high →
+        NextOrNone 128 (has s) i r
+    next_high k ek lk None r h e = subst (NextOrNone 128 (has s) i) (sym e) (none_up 128 (λ j lj ll. h j (omega arith) (omega arith)))
+    next_high k ek lk (Some b) r (h, l) e =
+        let z : 64 + b - 64 ≡ b = omega arith in
+        subst (NextOrNone 128 (has s) i) (sym e) (
           record {
             from = omega (arith, h.from);
             most = omega arith;
             passes = λ _. has_high s (64 + b) (omega arith) ∙ ap (bit s.high) z ∙ h.passes l;
-            between = none_up (64 + b) (λ j lj lk. h.between j lj (omega arith));
+            between = none_up (64 + b) (λ j lj ll. h.between j (omega arith) (omega arith));
           },
           omega arith,
         )
 
   -- the number that the low word gives, or else the one that the high word gives
-  pub next_either : (low r : Option ℕ) → NextOrNone 64 (bit s.low) i low → ((x : ℕ) → low ≡ Some x → r ≡ Some x) →
-      (low ≡ None → (high : Option ℕ) × NextOrNone 64 (bit s.high) (i - 64) high × (r ≡ option_map (λ p. 64 + p) high)) → NextOrNone 128 (has s) i r
-  next_either (Some x) r n l h = subst (NextOrNone 128 (has s) i) (sym (l x refl)) (next_low x n)
-  next_either None r n l h = let (high, k, e) = h refl in subst (NextOrNone 128 (has s) i) (sym e) (next_high n high k)
+  pub next_either : (low r : Option ℕ) → i < 64 → NextOrNone 64 (bit s.low) i low → ((x : ℕ) → low ≡ Some x → r ≡ Some x) →
+      (low ≡ None → (high : Option ℕ) × NextOrNone 64 (bit s.high) 0 high × (r ≡ option_map (λ p. 64 + p) high)) → NextOrNone 128 (has s) i r
+  next_either (Some x) r m n l h = subst (NextOrNone 128 (has s) i) (sym (l x refl)) (next_low x n)
+  next_either None r m n l h = let (high, k, e) = h refl in next_high n 0 (omega arith) (omega arith) high r k e
