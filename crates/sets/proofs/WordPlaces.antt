@@ -3,14 +3,12 @@ use mathlib.Core.Path.{◌≡◌, refl, sym, ap, ap₂, ◌∙◌}
 use mathlib.Core.Bool.{Bool, true, false, not, ◌&&◌, ◌||◌}
 use mathlib.Core.Logic.{⊎_elim}
 use Prim.Native.Nat.{ℕ, zero, suc, ◌+◌, ◌-◌, ◌*◌, ◌/◌, ◌%◌, ◌^◌, ◌≤◌, ◌<◌, min, max}
-use native.Mathlib.Nat.{mod-lt, div-one, div-eq_of_lt, eq-or-lt_of_le, zero-lt-suc, lt_of_lt_of_le, pow-suc}
-use native.Mathlib.Numerals.{one-add}
+use native.Mathlib.Nat.{mod-lt, zero-lt-suc}
 use native.Mathlib.Omega.{arith}
 use borrow.Author.Tests.{eqb-true, eqb-false, eq-eqb, ne_eqb, lt-ltb, le-ltb, lt-leb, le-leb}
-use lib.Arith.{digits_mod}
-use lib.Bits.{bit_and as word_and, bit_or as word_or, and_step, or_step, and_shr, or_shr, and_mask, shifted_half, shifted_even}
-use lib.Pow.{pow_mono, pow_pos, shr-shr}
-use lib.Dec.{eqb, ltb, leb, lit<}
+use lib.Bits.{bit_and as word_and, bit_or as word_or, and_mask, shifted_half, shifted_even}
+use lib.Pow.{shr-shr}
+use lib.Dec.{eqb, ltb, leb}
 use Rattle.answer.proofs.Tests.{lt_or_ge}
 use Rattle.std.specs.Int.{w64, bit_at}
 use Rattle.std.proofs.lemmas.Nat.{one_shl}
