@@ -6,9 +6,6 @@ use Rattle.sets.proofs.next_at.Goals as goal
 pub returns-then-rest-eq0 : goal.returns-then-rest-eq0
 returns-then-rest-eq0 c = next_none c.args.word c.args.i c.if-rest-eq0.true
 
-pub overflow_add-result : goal.overflow_add-result
-overflow_add-result c = omega (arith, next_within c.args.word c.args.i c.least_at.result (omega arith) c.least_at.ensures.0 c.least_at.ensures.1)
-
 pub returns-else-rest-eq0 : goal.returns-else-rest-eq0
 returns-else-rest-eq0 c =
     let (least, l) = c.least_at.ensures in
