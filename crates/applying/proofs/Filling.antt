@@ -2,7 +2,7 @@
 use mathlib.Core.Path.{◌≡◌, refl, sym, ap, ◌∙◌, subst}
 use mathlib.Core.Bool.{Bool, true, false}
 use mathlib.Core.Logic.{⊎_elim}
-use mathlib.Core.List.{List, [], ◌∷◌}
+use mathlib.Core.List.{List, []}
 use Prim.Native.Nat.{ℕ, ◌+◌, ◌≤◌, ◌<◌}
 use native.Mathlib.Nat.{eq-or-lt_of_le}
 use native.Mathlib.Omega.{arith}
@@ -13,45 +13,47 @@ use lib.Seq.{get_or-set_same, get_or-set_other}
 use Rattle.answer.specs.Fields.{fields}
 use Rattle.encoding.specs.Layout.{maximum}
 use Rattle.sets.specs.Sets.{Has}
-use Rattle.sets.specs.declared.Set.{Set}
 use Rattle.applying.specs.Members.{member}
-use Rattle.applying.specs.Filled.{set_at, third_at, Runs, KeptPastMaximum, FieldFilled, ValuesFilled, SetRows, FilledBelow, Filled, KeptPastMaxima}
+use Rattle.applying.specs.declared.Run.{Run}
+use Rattle.applying.specs.Filled.{no_run, set_at, last_at, Runs, KeptPastMaximum, FieldFilled, ValuesFilled, SetRows, FilledBelow, Filled, KeptPastMaxima}
 
 -- the sets of the values below v are in the row, each value as a run of its own
-pub record ValuesBelow (t : List ℕ) (f : ℕ) (row : List (List ℕ)) (v : ℕ) : Type 0 where
+pub record ValuesBelow (t : List ℕ) (f : ℕ) (row : List Run) (v : ℕ) : Type 0 where
   pub long : length row ≡ 256
   pub sets : (u : ℕ) → u < v → Has (set_at row u) (member t f u)
-  pub alone : (u : ℕ) → u < v → third_at row u ≡ u
+  pub alone : (u : ℕ) → u < v → last_at row u ≡ u
 
-module _ (t : List ℕ) (f : ℕ) (row : List (List ℕ)) where
+module _ (t : List ℕ) (f : ℕ) (row : List Run) where
   pub no_value : length row ≡ 256 → ValuesBelow t f row 0
   no_value e = record { long = e; sets = λ u l. absurd (omega arith); alone = λ u l. absurd (omega arith) }
 
-  pub one_value : (v : ℕ) (s : Set) → v < 256 → Has s (member t f v) → ValuesBelow t f row v → ValuesBelow t f (set row v (s.low ∷ s.high ∷ v ∷ [])) (v + 1)
-  one_value v s l h w =
-      let new = s.low ∷ s.high ∷ v ∷ [] in
+  pub one_value : (v : ℕ) (r : Run) → v < 256 → Has r.set (member t f v) → r.last ≡ v → ValuesBelow t f row v → ValuesBelow t f (set row v r) (v + 1)
+  one_value v r l h e w =
       record {
-        long = length-set row v new ∙ w.long;
+        long = length-set row v r ∙ w.long;
         sets = λ u lu.
             ⊎_elim
-            (λ (z : u ≡ v).
-            subst (λ n. Has (set_at (set row v new) n) (member t f n)) (sym z)
-            (subst (λ p. Has (record { low = get_or p 0 0; high = get_or p 1 0 }) (member t f v)) (sym (get_or-set_same row v new [] (omega (arith, w.long)))) h))
-            (λ (z : u < v).
-            subst (λ p. Has (record { low = get_or p 0 0; high = get_or p 1 0 }) (member t f u)) (sym (get_or-set_other row v u new [] (λ q. omega arith))) (w.sets u z))
+            (λ (z : u ≡ v). subst (λ n. Has (set_at (set row v r) n) (member t f n)) (sym z) (subst (λ p. Has p.set (member t f v)) (sym here) h))
+            (λ (z : u < v). subst (λ p. Has p.set (member t f u)) (sym (there u z)) (w.sets u z))
             (eq-or-lt_of_le (omega arith));
         alone = λ u lu.
             ⊎_elim
-            (λ (z : u ≡ v). ap (λ n. third_at (set row v new) n) z ∙ ap (λ p. get_or p 2 0) (get_or-set_same row v new [] (omega (arith, w.long))) ∙ sym z)
-            (λ (z : u < v). ap (λ p. get_or p 2 0) (get_or-set_other row v u new [] (λ q. omega arith)) ∙ w.alone u z)
+            (λ (z : u ≡ v). ap (last_at (set row v r)) z ∙ ap (λ p. p.last) here ∙ e ∙ sym z)
+            (λ (z : u < v). ap (λ p. p.last) (there u z) ∙ w.alone u z)
             (eq-or-lt_of_le (omega arith));
       }
+    where
+      here : get_or (set row v r) v no_run ≡ r
+      here = get_or-set_same row v r no_run (omega (arith, w.long))
+
+      there : (u : ℕ) → u < v → get_or (set row v r) u no_run ≡ get_or row u no_run
+      there u z = get_or-set_other row v u r no_run (λ q. omega arith)
 
   pub all_values : (v m : ℕ) → m ≡ maximum t f → m < v → ValuesBelow t f row v → ValuesFilled t f row
   all_values v m e l w = record { long = w.long; sets = λ u lu. w.sets u (omega arith); alone = λ u lu. w.alone u (omega arith) }
 
   -- the sets of a field's values, with their runs marked
-  pub with_runs : (m : ℕ) (marked : List (List ℕ)) → m ≡ maximum t f → length marked ≡ 256 → ((v : ℕ) → set_at marked v ≡ set_at row v) → Runs m marked → ValuesFilled t f row → FieldFilled t f marked
+  pub with_runs : (m : ℕ) (marked : List Run) → m ≡ maximum t f → length marked ≡ 256 → ((v : ℕ) → set_at marked v ≡ set_at row v) → Runs m marked → ValuesFilled t f row → FieldFilled t f marked
   with_runs m marked e l k r w =
       record {
         long = l;
@@ -60,16 +62,16 @@ module _ (t : List ℕ) (f : ℕ) (row : List (List ℕ)) where
       }
 
 -- the rows before field f have their sets, and there is a row for each field, as it was past the field's maximum
-pub record FieldsBelow (t : List ℕ) (before rows : List (List (List ℕ))) (f : ℕ) : Type 0 where
+pub record FieldsBelow (t : List ℕ) (before rows : List (List Run)) (f : ℕ) : Type 0 where
   pub rowed : SetRows rows
   pub filled : FilledBelow t f rows
   pub past : KeptPastMaxima t before rows
 
-module _ (t : List ℕ) (before rows : List (List (List ℕ))) where
+module _ (t : List ℕ) (before rows : List (List Run)) where
   pub no_field : SetRows rows → FieldsBelow t rows rows 0
   no_field r = record { rowed = r; filled = λ g l. absurd (omega arith); past = λ g l. refl }
 
-  pub one_field : (f : ℕ) (row : List (List ℕ)) → f < fields → FieldFilled t f row → KeptPastMaximum (maximum t f) (get_or rows f []) row →
+  pub one_field : (f : ℕ) (row : List Run) → f < fields → FieldFilled t f row → KeptPastMaximum (maximum t f) (get_or rows f []) row →
       FieldsBelow t before rows f → FieldsBelow t before (set rows f row) (f + 1)
   one_field f row l h k w =
       record {

@@ -7,7 +7,7 @@ ghost use Rattle.sets.specs.Sets.{Has};
 ghost use Rattle.table.specs.WellFormed.{WellFormed};
 ghost use Rattle.encoding.specs.Layout.{maximum, NodeHeld};
 ghost use Rattle.applying.specs.Members.{range_holds, member};
-ghost use Rattle.applying.specs.Filled.{set_at, third_at, run_end, Runs, KeptPastMaximum, FieldFilled, ValuesFilled, SetRows, Filled, KeptPastMaxima};
+ghost use Rattle.applying.specs.Filled.{set_at, last_at, run_end, Runs, KeptPastMaximum, FieldFilled, ValuesFilled, SetRows, Filled, KeptPastMaxima};
 
 use answer::FIELDS;
 use encoding::layout::{count_at, maximum_at, range_of, ranges_at, span_at};
@@ -16,6 +16,13 @@ use targets::in_range;
 
 // How many values a field may have.
 pub const VALUES: usize = 256;
+
+// The set of nodes of a value, and the last of the values from it on that are known to have the same.
+#[derive(Clone, Copy)]
+pub struct Run {
+    pub set: Set,
+    pub last: usize,
+}
 
 // Whether a value lies in node i's range of a field.
 fn holds(table: &[u8], field: usize, value: u8, i: usize) -> bool
@@ -27,6 +34,7 @@ fn holds(table: &[u8], field: usize, value: u8, i: usize) -> bool
 }
 
 // The nodes that apply in a field alone at a value: a node whose range fails is skipped with all nodes under it.
+#[tactic(auto, using(encoding::proofs::Places::header_held, ruling::proofs::Steps::held))]
 pub fn members(table: &[u8], field: usize, value: u8) -> Set
     requires well_formed { WellFormed table.now }
     requires field_lt_fields { field < fields }
@@ -35,6 +43,7 @@ pub fn members(table: &[u8], field: usize, value: u8) -> Set
     let count = count_at(table);
     let mut set = Set::empty();
     let mut i = 0;
+    // A node whose range fails is stepped over by its span, so no range of numbers gives the nodes to be tested.
     while i < count {
         if holds(table, field, value, i) {
             set = set.with(i);
@@ -47,87 +56,74 @@ pub fn members(table: &[u8], field: usize, value: u8) -> Set
 }
 
 // The sets of one field, for each of its values: each value is a run of its own.
-fn fill_values(table: &[u8], field: usize, row: &mut [[u64; 3]; VALUES])
+#[tactic(auto, using(encoding::proofs::Places::header_held))]
+fn fill_values(table: &[u8], field: usize, row: &mut [Run; VALUES])
     requires well_formed { WellFormed table.now }
     requires field_lt_fields { field < fields }
-    requires row_len { length row.old ≡ 256 }
     ensures values_filled { ValuesFilled table.now field row.new }
     ensures kept_past_maximum { KeptPastMaximum (maximum table.now field) row.old row.new }
 {
-    let most = maximum_at(table, field) as usize;
-    let mut value: usize = 0;
-    while value <= most {
-        let set = members(table, field, value as u8);
-        row[value] = [set.low, set.high, value as u64];
-        value += 1;
+    for value in 0..=maximum_at(table, field) {
+        let last = usize::from(value);
+        let set = members(table, field, value);
+        row[last] = Run { set, last };
     }
 }
 
 // Neighbouring values up to the largest that have the same set become one run: its first value has its last.
-fn mark_runs(row: &mut [[u64; 3]; VALUES], most: usize)
-    requires row_len { (length row.old ≡ 256) × (most < 256) }
-    requires by_index { (v : ℕ) → v ≤ most → third_at row.old v ≡ v }
-    ensures row_len_2 { length row.new ≡ 256 }
-    ensures by_index_2 { (v : ℕ) → set_at row.new v ≡ set_at row.old v }
+fn mark_runs(row: &mut [Run; VALUES], most: usize)
+    requires most_lt_256 { most < 256 }
+    requires alone { (v : ℕ) → v ≤ most → last_at row.old v ≡ v }
+    ensures kept { (v : ℕ) → set_at row.new v ≡ set_at row.old v }
     ensures runs { Runs most row.new }
     ensures kept_past_maximum { KeptPastMaximum most row.old row.new }
 {
-    let mut start: usize = 0;
-    let mut value: usize = 1;
-    while value <= most {
-        let first = set_at(row, start);
-        if first.same(set_at(row, value)) {
-            row[start] = [first.low, first.high, value as u64];
-            value += 1;
+    let mut start = 0;
+    for value in 1..=most {
+        if row[start].set == row[value].set {
+            row[start].last = value;
         } else {
             start = value;
-            value += 1;
         }
     }
 }
 
 // The sets of one field, and its runs.
-fn fill_field(table: &[u8], field: usize, row: &mut [[u64; 3]; VALUES])
+#[tactic(auto, using(encoding::proofs::Places::header_held))]
+fn fill_field(table: &[u8], field: usize, row: &mut [Run; VALUES])
     requires well_formed { WellFormed table.now }
     requires field_lt_fields { field < fields }
-    requires row_len { length row.old ≡ 256 }
     ensures field_filled { FieldFilled table.now field row.new }
     ensures kept_past_maximum { KeptPastMaximum (maximum table.now field) row.old row.new }
 {
     fill_values(table, field, row);
-    mark_runs(row, maximum_at(table, field) as usize);
+    mark_runs(row, usize::from(maximum_at(table, field)));
 }
 
 // The sets of all fields.
-pub fn fill(table: &[u8], rows: &mut [[[u64; 3]; VALUES]; FIELDS])
+pub fn fill(table: &[u8], rows: &mut [[Run; VALUES]; FIELDS])
     requires well_formed { WellFormed table.now }
     requires set_rows { SetRows rows.old }
     ensures filled { Filled table.now rows.new }
     ensures kept_past_maxima { KeptPastMaxima table.now rows.old rows.new }
 {
-    let mut field = 0;
-    while field < FIELDS {
-        fill_field(table, field, &mut rows[field]);
-        field += 1;
+    for (field, row) in rows.iter_mut().enumerate() {
+        fill_field(table, field, row);
     }
 }
 
 // The set of a value, in a field's row.
-pub fn set_at(row: &[[u64; 3]; VALUES], value: usize) -> Set
+pub fn set_at(row: &[Run; VALUES], value: usize) -> Set
     requires { value < 256 }
     ensures { result ≡ set_at row.now value }
 {
-    Set {
-        low: row[value][0],
-        high: row[value][1],
-    }
+    row[value].set
 }
 
 // The last value of a run of values, in a field's row.
-pub fn run_end(row: &[[u64; 3]; VALUES], value: usize) -> usize
+pub fn run_end(row: &[Run; VALUES], value: usize) -> usize
     requires { value < 256 }
     ensures { (result ≡ run_end row.now value) × (value ≤ result) }
 {
-    let last = row[value][2] as usize;
-    if last < value { value } else { last }
+    row[value].last.max(value)
 }

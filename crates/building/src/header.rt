@@ -17,5 +17,5 @@ pub(crate) fn write_header(diagram: &mut [u16], used: u16, root: u16, table: &[u
     diagram[0] = used;
     diagram[1] = root;
     let maxima = maxima_at(table);
-    store(&maxima, &mut diagram[2..]);
+    store(&maxima, diagram, 2);
 }

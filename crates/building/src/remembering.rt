@@ -1,6 +1,5 @@
 // What was walked before, by the set of nodes that was still possible: a slot holds the set, the field walked from and the place.
-ghost use Rattle.std.specs.Prelude.{◌≡◌, true, [], ◌∷◌, ◌≤◌, ◌<◌, set};
-ghost use Rattle.sets.specs.Sets.{same};
+ghost use Rattle.std.specs.Prelude.{◌≡◌, ◌≤◌, ◌<◌, set, Some, IfSome};
 ghost use Rattle.answer.specs.Fields.{fields};
 ghost use Rattle.diagram.specs.Layout.{most_places};
 ghost use Rattle.building.specs.Walked.{Slot};
@@ -11,21 +10,30 @@ use sets::Set;
 // How many slots there are: a prime number, so that every place of a set's words counts.
 pub(crate) const SEEN: usize = 701;
 
-// A set of nodes, and the place of what was walked with it; place 0 where nothing was.
+// A set of nodes, and the place of what was walked with it.
 #[derive(Clone, Copy)]
 pub(crate) struct Known {
     pub nodes: Set,
     pub place: usize,
 }
 
-// Whether it is known of a set.
-pub(crate) fn is_known(near: Known, nodes: Set) -> bool
-    ensures { result ≡ true → (near.place ≡ 0 → ⊥) × (same near.nodes nodes ≡ true) }
+// A set of nodes, the field walked from with it, and the place of what was walked.
+#[derive(Clone, Copy)]
+pub(crate) struct Seen {
+    pub nodes: Set,
+    pub field: u16,
+    pub place: u16,
+}
+
+// The place that the neighbour has for a set.
+pub(crate) fn recall_near(near: Option<Known>, nodes: Set) -> Option<usize>
+    ensures { IfSome result (λ place. near ≡ Some (record { nodes = nodes; place = place })) }
 {
-    if near.place == 0 {
-        false
+    let known = near?;
+    if known.nodes == nodes {
+        Some(known.place)
     } else {
-        near.nodes.same(nodes)
+        None
     }
 }
 
@@ -39,38 +47,40 @@ pub(crate) fn slot_of(nodes: Set, field: usize) -> usize
     (3 * (low as usize) + 5 * (high as usize) + field) % SEEN
 }
 
-// The place that a slot holds of a set and a field, or 0.
-pub(crate) fn recall(seen: &[[u64; 4]; SEEN], slot: usize, nodes: Set, field: usize) -> usize
+// The place that a slot holds of a set and a field.
+pub(crate) fn recall(
+    seen: &[Option<Seen>; SEEN],
+    slot: usize,
+    nodes: Set,
+    field: usize,
+) -> Option<usize>
     requires { slot < 701 }
-    ensures upper_bound { result < most_places }
-    ensures slot { (result ≡ 0 → ⊥) → Slot seen.now slot nodes field result }
+    ensures upper_bound { IfSome result (λ place. place < most_places) }
+    ensures slot { IfSome result (λ place. Slot seen.now slot nodes field place) }
 {
-    if seen[slot][0] != nodes.low {
-        return 0;
+    let held = seen[slot]?;
+    let place = usize::from(held.place);
+    if held.nodes == nodes && usize::from(held.field) == field && place < MOST_PLACES {
+        Some(place)
+    } else {
+        None
     }
-    if seen[slot][1] != nodes.high {
-        return 0;
-    }
-    if seen[slot][2] != field as u64 {
-        return 0;
-    }
-    let place = seen[slot][3] as usize;
-    if MOST_PLACES <= place {
-        return 0;
-    }
-    place
 }
 
 // Remembers the place of what was walked with a set from a field on.
 pub(crate) fn remember(
-    seen: &mut [[u64; 4]; SEEN],
+    seen: &mut [Option<Seen>; SEEN],
     slot: usize,
     nodes: Set,
     field: usize,
     place: usize,
 )
-    requires { slot < 701 }
-    ensures { seen.new ≡ set seen.old slot (nodes.low ∷ nodes.high ∷ field ∷ place ∷ []) }
+    requires { (slot < 701) × (field ≤ fields) × (place < most_places) }
+    ensures { seen.new ≡ set seen.old slot (Some (record { nodes = nodes; field = field; place = place })) }
 {
-    seen[slot] = [nodes.low, nodes.high, field as u64, place as u64];
+    seen[slot] = Some(Seen {
+        nodes,
+        field: field as u16,
+        place: place as u16,
+    });
 }

@@ -1,5 +1,5 @@
 // The walk: all subjects upward, within each all resources, within each all actions. What has the same set of nodes left is walked once.
-ghost use Rattle.std.specs.Prelude.{◌≡◌, ◌≤◌, ◌<◌, length};
+ghost use Rattle.std.specs.Prelude.{◌≡◌, ◌≤◌, ◌<◌, length, IfSome};
 ghost use Rattle.answer.specs.Fields.{fields};
 ghost use Rattle.answer.specs.Answers.{zeros};
 ghost use Rattle.sets.specs.Sets.{has};
@@ -11,18 +11,18 @@ ghost use Rattle.diagram.specs.Layout.{header, most_places};
 ghost use Rattle.diagram.specs.Entries.{terminal};
 ghost use Rattle.diagram.specs.Walk.{Entries, enter};
 ghost use Rattle.entering.specs.Laid.{Laid, Room, Bounded, Standing};
-ghost use Rattle.entering.specs.Edges.{EdgeRows, EdgesKept};
+ghost use Rattle.entering.specs.Edges.{EdgesKept};
 ghost use Rattle.entering.specs.Walking.{Held, Walks};
 ghost use Rattle.building.specs.Walked.{walk_by, Remembers, RemembersNear, AllWalked};
 
-use crate::remembering::{Known, SEEN, is_known, recall, remember, slot_of};
+use crate::remembering::{Known, SEEN, Seen, recall, recall_near, remember, slot_of};
 use answer::FIELDS;
-use applying::{VALUES, fill, run_end, set_at};
+use applying::{Run, VALUES, fill, run_end, set_at};
 use deciding::rule_set;
 use diagram::HEADER;
 use encoding::layout::maximum_at;
-use entering::edges::extend;
-use entering::writing::{MOST_CARDS, MOST_EDGES};
+use entering::edges::Edges;
+use entering::writing::MOST_CARDS;
 use entering::{SLOTS, Step, enter_node, enter_terminal};
 use sets::Set;
 
@@ -33,11 +33,11 @@ fn enter_ruling(
     diagram: &mut [u16],
     end: usize,
     index: &mut [u16; SLOTS],
-) -> Step
+) -> Option<Step>
     requires well_formed { WellFormed table.now × Closed table.now (has applying) }
     requires room { Room (length diagram.old) end }
-    ensures bounded { Bounded diagram.old index.old end diagram.new index.new result.full result.end result.place }
-    ensures standing { (es : Entries) → Laid es diagram.old index.old end → Standing (enter (header fields) es (terminal (meaning (has applying) table.now))) (length diagram.old) diagram.new index.new result.full result.end result.place }
+    ensures bounded { Bounded diagram.old index.old diagram.new index.new result }
+    ensures standing { (es : Entries) → Laid es diagram.old index.old end → Standing (enter (header fields) es (terminal (meaning (has applying) table.now))) (length diagram.old) diagram.new index.new result }
 {
     let mut cards = [0u16; MOST_CARDS];
     let ruled = rule_set(table, applying, &mut cards);
@@ -49,81 +49,63 @@ fn enter_ruling(
 #[cycle(walk_walk_once)]
 fn walk_once(
     table: &[u8],
-    sets: &[[[u64; 3]; VALUES]; FIELDS],
+    sets: &[[Run; VALUES]; FIELDS],
     field: usize,
     possible: Set,
-    near: Known,
+    near: Option<Known>,
     diagram: &mut [u16],
     end: usize,
     index: &mut [u16; SLOTS],
-    seen: &mut [[u64; 4]; SEEN],
-    last: &mut [[u16; MOST_EDGES]; FIELDS],
-    child: &mut [[u16; MOST_EDGES]; FIELDS],
-) -> Step
+    seen: &mut [Option<Seen>; SEEN],
+    edges: &mut [Edges; FIELDS],
+) -> Option<Step>
     requires well_formed { WellFormed table.now × Filled table.now sets.now × Closed table.now (has possible) }
-    requires room { Room (length diagram.old) end × (field ≤ fields) × (near.place < most_places) }
-    requires edge_rows { EdgeRows last.old × EdgeRows child.old }
-    ensures walks { Walks (walk_by table.now field (has possible)) (Held (RemembersNear table.now seen.old field near) diagram.old index.old end) (Remembers table.now seen.new) (length diagram.old) diagram.new index.new result.full result.end result.place }
-    ensures edges_kept { EdgesKept field last.old last.new × EdgesKept field child.old child.new }
+    requires room { Room (length diagram.old) end × (field ≤ fields) × IfSome near (λ known. known.place < most_places) }
+    ensures walks { Walks (walk_by table.now field (has possible)) (Held (RemembersNear table.now seen.old field near) diagram.old index.old end) (Remembers table.now seen.new) (length diagram.old) diagram.new index.new result }
+    ensures edges_kept { EdgesKept field edges.old edges.new }
 {
-    if is_known(near, possible) {
-        return Step {
-            end,
-            place: near.place,
-            full: false,
-        };
+    if let Some(place) = recall_near(near, possible) {
+        return Some(Step { end, place });
     }
     let slot = slot_of(possible, field);
-    let place = recall(seen, slot, possible, field);
-    if 0 < place {
-        return Step {
-            end,
-            place,
-            full: false,
-        };
+    if let Some(place) = recall(seen, slot, possible, field) {
+        return Some(Step { end, place });
     }
     let step = walk(
-        table, sets, field, possible, diagram, end, index, seen, last, child,
-    );
-    if step.full {
-        return step;
-    }
+        table, sets, field, possible, diagram, end, index, seen, edges,
+    )?;
     remember(seen, slot, possible, field, step.place);
-    step
+    Some(step)
 }
 
 // Walks the fields from one on, where the fields before it leave a set of nodes possible: everything under a run of values
-// is entered, then the node itself. The open edges of each level stand in `last` and `child`.
+// is entered, then the node itself. The open edges of each level stand in `edges`.
 #[cycle(walk_walk_once)]
 fn walk(
     table: &[u8],
-    sets: &[[[u64; 3]; VALUES]; FIELDS],
+    sets: &[[Run; VALUES]; FIELDS],
     field: usize,
     possible: Set,
     diagram: &mut [u16],
     end: usize,
     index: &mut [u16; SLOTS],
-    seen: &mut [[u64; 4]; SEEN],
-    last: &mut [[u16; MOST_EDGES]; FIELDS],
-    child: &mut [[u16; MOST_EDGES]; FIELDS],
-) -> Step
+    seen: &mut [Option<Seen>; SEEN],
+    edges: &mut [Edges; FIELDS],
+) -> Option<Step>
     requires well_formed { WellFormed table.now × Filled table.now sets.now × Closed table.now (has possible) }
     requires room { Room (length diagram.old) end × (field ≤ fields) }
-    requires edge_rows { EdgeRows last.old × EdgeRows child.old }
-    ensures walks { Walks (walk_by table.now field (has possible)) (Held (Remembers table.now seen.old) diagram.old index.old end) (Remembers table.now seen.new) (length diagram.old) diagram.new index.new result.full result.end result.place }
-    ensures edges_kept { EdgesKept field last.old last.new × EdgesKept field child.old child.new }
+    ensures walks { Walks (walk_by table.now field (has possible)) (Held (Remembers table.now seen.old) diagram.old index.old end) (Remembers table.now seen.new) (length diagram.old) diagram.new index.new result }
+    ensures edges_kept { EdgesKept field edges.old edges.new }
 {
     if field == FIELDS {
         return enter_ruling(table, possible, diagram, end, index);
     }
     let most = maximum_at(table, field) as usize;
-    let mut near = Known {
-        nodes: possible,
-        place: 0,
-    };
+    let mut near = None;
     let mut at = end;
-    let mut edges: usize = 0;
+    edges[field].clear();
     let mut value: usize = 0;
+    // A `while`: each step is as long as the run of values that starts there.
     while value <= most {
         let here = possible.meet(set_at(&sets[field], value));
         let until = run_end(&sets[field], value);
@@ -137,48 +119,35 @@ fn walk(
             at,
             index,
             seen,
-            last,
-            child,
-        );
-        if under.full {
-            return under;
-        }
-        at = under.end;
-        let place = under.place;
-        near = Known { nodes: here, place };
-        edges = extend(
-            &mut last[field],
-            &mut child[field],
             edges,
-            until as u16,
-            place as u16,
-        );
+        )?;
+        at = under.end;
+        near = Some(Known {
+            nodes: here,
+            place: under.place,
+        });
+        edges[field].extend(until as u16, under.place as u16);
         value = until + 1;
     }
-    enter_node(
-        diagram,
-        at,
-        index,
-        field as u16 + 1,
-        &last[field],
-        &child[field],
-        edges,
-    )
+    enter_node(diagram, at, index, field as u16 + 1, &edges[field])
 }
 
 // Walks all fields, in a cleared diagram.
-pub(crate) fn walk_all(table: &[u8], diagram: &mut [u16]) -> Step
+pub(crate) fn walk_all(table: &[u8], diagram: &mut [u16]) -> Option<Step>
     requires well_formed { WellFormed table.now }
     requires room { Room (length diagram.old) (header fields) }
     requires diagram_value { diagram.old ≡ zeros (length diagram.old) }
-    ensures { AllWalked table.now (length diagram.old) diagram.new result.full result.end result.place }
+    ensures { AllWalked table.now (length diagram.old) diagram.new result }
 {
-    let mut sets = [[[0u64; 3]; VALUES]; FIELDS];
+    let run = Run {
+        set: Set::empty(),
+        last: 0,
+    };
+    let mut sets = [[run; VALUES]; FIELDS];
     fill(table, &mut sets);
     let mut index = [0u16; SLOTS];
-    let mut seen = [[0u64; 4]; SEEN];
-    let mut last = [[0u16; MOST_EDGES]; FIELDS];
-    let mut child = [[0u16; MOST_EDGES]; FIELDS];
+    let mut seen: [Option<Seen>; SEEN] = [None; SEEN];
+    let mut edges = [Edges::none(); FIELDS];
     walk(
         table,
         &sets,
@@ -188,7 +157,6 @@ pub(crate) fn walk_all(table: &[u8], diagram: &mut [u16]) -> Step
         HEADER,
         &mut index,
         &mut seen,
-        &mut last,
-        &mut child,
+        &mut edges,
     )
 }

@@ -21,11 +21,10 @@ pub fn build(table: &[u8], diagram: &mut [u16]) -> Answer
     if diagram.len() < HEADER {
         return Answer::refused(11, 0);
     }
-    let root = walk_all(table, diagram);
-    if root.full {
+    let Some(root) = walk_all(table, diagram) else {
         clear(diagram);
         return Answer::refused(11, 0);
-    }
+    };
     write_header(diagram, root.end as u16, root.place as u16, table);
     Answer::counted(root.end)
 }

@@ -1,214 +1,138 @@
 // The calls that a case can make, and what the library answers to them.
-use crate::input;
-use crate::input::BYTES;
-use crate::numbers::{number, wide};
-use crate::text::{between, find, scan};
-use answer::{Answer, JointRequest, OTHERS, Request};
-
-// Room for more places than a diagram has.
-pub(crate) const PLACES: usize = 33000;
-
-// The calls, and how many there are, which stands for none of them.
-pub(crate) const READ: usize = 0;
-
-pub(crate) const RULE: usize = 1;
-
-pub(crate) const READ_STANDARD: usize = 2;
-
-pub(crate) const RULE_STANDARD: usize = 3;
-
-pub(crate) const BUILD: usize = 4;
-
-pub(crate) const ATTACH: usize = 5;
-
-pub(crate) const LOOK_UP: usize = 6;
-
-pub(crate) const CALLS: usize = 7;
-
-// The number of the answer where a case does not say what is asked.
-pub(crate) const NOT_ASKED: u8 = 255;
+use crate::given::{BYTES, Given};
+use crate::numbers::{Fault, decimal, ended, exactly, to_bytes};
+use answer::{Answer, JointRequest, Request};
+use std::alloc::Global;
 
 // How many subjects a set can have.
 const MOST: usize = 64;
 
-// A call, the set of subjects or the one subject that it asks about, the values of the other fields, and how many places or
-// bytes it is lent.
+// A call, and what it asks.
 #[derive(Clone, Copy)]
-pub(crate) struct Call {
-    pub which: usize,
-    pub subjects: u64,
-    pub subject: u16,
-    pub others: [u16; OTHERS],
-    pub places: usize,
+pub(crate) enum Call {
+    Read,
+    Rule(JointRequest),
+    ReadStandard,
+    RuleStandard(JointRequest),
+    Build,
+    Attach,
+    LookUp(Request),
 }
 
-// A set of subjects, and whether a text says it.
-#[derive(Clone, Copy)]
-struct Said {
-    understood: bool,
-    subjects: u64,
-}
+impl Call {
+    // The calls' names, in the order in which they are counted.
+    pub(crate) const NAMES: [&'static str; 7] = [
+        "read",
+        "rule",
+        "read_standard",
+        "rule_standard",
+        "build",
+        "attach",
+        "look_up",
+    ];
 
-// The call that a text says.
-pub(crate) fn named(text: &[u8]) -> Call {
-    let mut list = [0; 4];
-    if is_worded(text, b" read", 0, &mut list) {
-        return made(READ, 0, [0, 0, 0, 0]);
-    }
-    if is_worded(text, b" read_standard", 0, &mut list) {
-        return made(READ_STANDARD, 0, [0, 0, 0, 0]);
-    }
-    if is_worded(text, b" build room*", 1, &mut list) {
-        return made(BUILD, 0, [0, 0, 0, list[0]]);
-    }
-    if is_worded(text, b" attach room*", 1, &mut list) {
-        return made(ATTACH, 0, [0, 0, 0, list[0]]);
-    }
-    if is_worded(text, b" look_up*list*", 4, &mut list) {
-        return made(LOOK_UP, 0, list);
-    }
-    let start = find(text, 0, b'{');
-    let end = find(text, start, b'}');
-    let said = subjects_in(between(text, start, end));
-    if said.understood & is_worded(between(text, end, text.len()), b"}*list*", 3, &mut list) {
-        let which = ruling_named(between(text, 0, start));
-        return made(which, said.subjects, [0, list[0], list[1], list[2]]);
-    }
-    made(CALLS, 0, [0, 0, 0, 0])
-}
-
-// The ruling that a text says, up to where its set starts.
-fn ruling_named(text: &[u8]) -> usize {
-    let mut none = [0; 1];
-    if is_worded(text, b" rule ", 0, &mut none) {
-        return RULE;
-    }
-    if is_worded(text, b" rule_standard ", 0, &mut none) {
-        RULE_STANDARD
-    } else {
-        CALLS
-    }
-}
-
-// Whether a text is worded as a pattern, with so many numbers.
-fn is_worded(text: &[u8], pattern: &[u8], count: usize, list: &mut [u16]) -> bool {
-    let scanned = scan(text, pattern, list);
-    scanned.fits & (scanned.count == count)
-}
-
-// The set of subjects that a text says, from where the set starts up to where it ends.
-fn subjects_in(text: &[u8]) -> Said {
-    let mut list = [0; MOST];
-    let scanned = scan(text, b"{*", &mut list);
-    let mut subjects = 0;
-    let mut at = 0;
-    while at < scanned.count {
-        let subject = number(&list, at);
-        if subject >= MOST {
-            return Said {
-                understood: false,
-                subjects: 0,
-            };
+    pub(crate) fn name(&self) -> &'static str {
+        match self {
+            Call::Read => "read",
+            Call::Rule(_) => "rule",
+            Call::ReadStandard => "read_standard",
+            Call::RuleStandard(_) => "rule_standard",
+            Call::Build => "build",
+            Call::Attach => "attach",
+            Call::LookUp(_) => "look_up",
         }
-        subjects = subjects | 1 << subject;
-        at += 1;
     }
-    Said {
-        understood: scanned.fits,
-        subjects,
+
+    // The call that a text says, and how many places or bytes it is lent.
+    pub(crate) fn parse(alloc: Global, text: &str) -> Result<(Call, usize), Fault> {
+        if text == " read" {
+            Ok((Call::Read, 0))
+        } else if text == " read_standard" {
+            Ok((Call::ReadStandard, 0))
+        } else if let Some(room) = text.strip_prefix(" build room") {
+            let [room] = exactly::<1>(decimal(alloc, room)?)?;
+            Ok((Call::Build, usize::from(room)))
+        } else if let Some(room) = text.strip_prefix(" attach room") {
+            let [room] = exactly::<1>(decimal(alloc, room)?)?;
+            Ok((Call::Attach, usize::from(room)))
+        } else if let Some(asked) = text.strip_prefix(" look_up") {
+            let [subject, resource, action, places] = exactly::<4>(lent_list(alloc, asked)?)?;
+            let values = [subject, resource, action];
+            Ok((Call::LookUp(Request { values }), usize::from(places)))
+        } else {
+            ruling(alloc, text)
+        }
+    }
+
+    // What the library answers, and writes to what it is lent.
+    pub(crate) fn ask(
+        self,
+        given: &Given,
+        changes: &str,
+        lent: &mut [u16],
+    ) -> Result<Answer, Fault> {
+        Ok(match self {
+            Call::Read => table::read(&given.table(changes)?),
+            Call::Rule(request) => ruling::rule(&given.table(changes)?, request, lent),
+            Call::ReadStandard => standard::read_standard(&given.table(changes)?),
+            Call::RuleStandard(request) => {
+                standard::rule_standard(&given.table(changes)?, request, lent)
+            }
+            Call::Build => building::build(&given.table(changes)?, lent),
+            Call::Attach => attach(given, &given.table(changes)?, lent)?,
+            Call::LookUp(request) => lookup::look_up(&given.diagram(changes)?, request, lent),
+        })
     }
 }
 
-// A call with its numbers: a subject, the values of the other fields, and how many places or bytes it is lent.
-fn made(which: usize, subjects: u64, numbers: [u16; 4]) -> Call {
-    Call {
-        which,
-        subjects,
-        subject: numbers[0],
-        others: [numbers[1], numbers[2]],
-        places: wide(numbers[3]),
-    }
-}
-
-// What the library answers to a call, by the lines with the last table, the last expansion and the last diagram, and by a
-// case's changes. As many places as the call says are lent of a list.
-pub(crate) fn ask(
-    call: Call,
-    table: &[u8],
-    expansion: &[u8],
-    diagram: &[u8],
-    changes: &[u8],
-    list: &mut [u16],
-) -> Answer {
-    let which = call.which;
-    let places = call.places;
-    if places > list.len() {
-        return not_asked();
-    }
-    match which {
-        READ..=ATTACH => ask_table(call, table, expansion, changes, &mut list[0..places]),
-        LOOK_UP => ask_diagram(call, diagram, changes, &mut list[0..places]),
-        _ => not_asked(),
-    }
-}
-
-fn ask_table(
-    call: Call,
-    line: &[u8],
-    expansion: &[u8],
-    changes: &[u8],
-    lent: &mut [u16],
-) -> Answer {
-    let mut bytes = [0; BYTES];
-    let size = input::make_bytes(line, b"table %", changes, &mut bytes);
-    if size > BYTES {
-        return not_asked();
-    }
-    let table = &bytes[0..size];
-    let which = call.which;
-    let subjects = call.subjects;
-    let others = call.others;
-    let request = JointRequest { subjects, others };
-    match which {
-        READ => table::read(table),
-        RULE => ruling::rule(table, request, lent),
-        READ_STANDARD => standard::read_standard(table),
-        RULE_STANDARD => standard::rule_standard(table, request, lent),
-        BUILD => building::build(table, lent),
-        _ => attach(table, expansion, lent),
-    }
-}
-
-// The expansion of a line is attached to a base. The numbers of what is lent are lent as bytes.
-fn attach(base: &[u8], line: &[u8], lent: &mut [u16]) -> Answer {
-    let mut expansion = [0; BYTES];
-    let size = input::make_bytes(line, b"expansion %", b"", &mut expansion);
-    if size > BYTES {
-        return not_asked();
-    }
-    let mut bytes = [0; BYTES];
-    let room = input::to_bytes(lent, lent.len(), &mut bytes);
-    if room > BYTES {
-        return not_asked();
-    }
-    let answer = attaching::attach(base, &expansion[0..size], &mut bytes[0..room]);
-    input::to_numbers(&bytes, lent);
-    answer
-}
-
-fn ask_diagram(call: Call, line: &[u8], changes: &[u8], lent: &mut [u16]) -> Answer {
-    let mut list = [0; PLACES];
-    let size = input::make(line, b"diagram *", changes, &mut list);
-    if size > PLACES {
-        return not_asked();
-    }
-    let others = call.others;
-    let request = Request {
-        values: [call.subject, others[0], others[1]],
+// A ruling on a set of subjects.
+fn ruling(alloc: Global, text: &str) -> Result<(Call, usize), Fault> {
+    let (name, text) = text.split_once('{').ok_or(Fault::NotUnderstood)?;
+    let (set, text) = text.split_once('}').ok_or(Fault::NotUnderstood)?;
+    let [resource, action, places] = exactly::<3>(lent_list(alloc, text)?)?;
+    let request = JointRequest {
+        subjects: subjects(&decimal(alloc, ended(set))?)?,
+        others: [resource, action],
     };
-    lookup::look_up(&list[0..size], request, lent)
+    let call = match ended(name) {
+        " rule " => Call::Rule(request),
+        " rule_standard " => Call::RuleStandard(request),
+        _ => return Err(Fault::NotUnderstood),
+    };
+    Ok((call, usize::from(places)))
 }
 
-fn not_asked() -> Answer {
-    Answer::refused(NOT_ASKED, 0)
+// A set of subjects, subject k as bit k.
+fn subjects(list: &[u16]) -> Result<u64, Fault> {
+    if list.len() > MOST {
+        return Err(Fault::NotUnderstood);
+    }
+    let mut set = 0u64;
+    for subject in list {
+        set |= 1u64
+            .checked_shl(u32::from(*subject))
+            .ok_or(Fault::NotUnderstood)?;
+    }
+    Ok(set)
+}
+
+// The numbers before and after the word `list`.
+fn lent_list(alloc: Global, text: &str) -> Result<Vec<u16>, Fault> {
+    let (asked, places) = text.split_once("list").ok_or(Fault::NotUnderstood)?;
+    let mut list = decimal(alloc, asked)?;
+    list.extend_from_slice(&decimal(alloc, places)?)?;
+    Ok(list)
+}
+
+// The expansion is attached to a base. The numbers of what is lent are lent as bytes.
+fn attach(given: &Given, base: &[u8], lent: &mut [u16]) -> Result<Answer, Fault> {
+    if lent.len() > BYTES {
+        return Err(Fault::NotUnderstood);
+    }
+    let mut bytes = to_bytes(given.alloc, lent)?;
+    let answer = attaching::attach(base, &given.expansion()?, &mut bytes);
+    for (number, byte) in lent.iter_mut().zip(bytes.iter()) {
+        *number = u16::from(*byte);
+    }
+    Ok(answer)
 }

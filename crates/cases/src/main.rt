@@ -3,27 +3,26 @@
 #![tactic(auto)]
 
 mod calls;
-mod input;
+mod given;
 mod numbers;
 mod script;
 mod tally;
-mod text;
 
 use std::io;
 use std::io::Read;
+use tally::Tally;
 
 // Room for more than the whole input.
 const ROOM: usize = 524288;
 
 fn main(rt: HostRuntime) -> io::Result<()> {
-    let mut bytes = Vec::new(rt.alloc());
-    let n = rt.stdin().take(ROOM as u64).read_to_end(&mut bytes)?;
-    let tally = script::run(&rt, &bytes)?;
-    if n < ROOM {
-        tally.print(&rt)
-    } else {
-        tally
-            .not_understood(&rt, b"input past the room for it")?
-            .print(&rt)
+    let alloc = rt.alloc();
+    let mut bytes = Vec::new(alloc);
+    rt.stdin().take(ROOM as u64).read_to_end(&mut bytes)?;
+    let mut tally = Tally::new(alloc);
+    script::run(&rt, alloc, &bytes, &mut tally)?;
+    if bytes.len() >= ROOM {
+        tally.not_understood(&rt, b"input past the room for it")?;
     }
+    tally.print(&rt)
 }

@@ -1,41 +1,74 @@
-// The numbers of a lent list. What lies past its end reads as 0, and is not set.
-ghost use Rattle.std.specs.Prelude.{◌<◌};
+// The numbers that a text says, and why one says none.
+ghost use Rattle.std.specs.Prelude.{◌≤◌};
 
-pub(crate) fn number(list: &[u16], at: usize) -> usize
-    ensures { result < 65536 }
+use std::alloc::{AllocError, AllocFailed, Global};
+
+// Why a line has no effect.
+#[derive(Debug, Drop)]
+pub(crate) enum Fault {
+    NotUnderstood,
+    OutOfMemory,
+}
+
+impl From<AllocError> for Fault {
+    fn from(_error: AllocError) -> Self {
+        Fault::OutOfMemory
+    }
+}
+
+impl<T: Drop> From<AllocFailed<T>> for Fault {
+    fn from(_error: AllocFailed<T>) -> Self {
+        Fault::OutOfMemory
+    }
+}
+
+// The decimal numbers of a text.
+pub(crate) fn decimal(alloc: Global, text: &str) -> Result<Vec<u16>, Fault> {
+    numbers(alloc, text, 10)
+}
+
+// The numbers of a text, with spaces and commas between.
+pub(crate) fn numbers(alloc: Global, text: &str, radix: u32) -> Result<Vec<u16>, Fault>
+    requires at_least_binary { 2 ≤ radix }
+    requires has_digits { radix ≤ 36 }
 {
-    if at < list.len() { wide(list[at]) } else { 0 }
+    let mut numbers = Vec::new(alloc);
+    for word in text.split([' ', ',']).filter(|word| !word.is_empty()) {
+        numbers.push(number(word, radix)?)?;
+    }
+    Ok(numbers)
 }
 
-pub(crate) fn wide(value: u16) -> usize
-    ensures { result < 65536 }
+// A number without a sign, its letters capitals.
+fn number(word: &str, radix: u32) -> Result<u16, Fault>
+    requires at_least_binary { 2 ≤ radix }
+    requires has_digits { radix ≤ 36 }
 {
-    value as usize
+    if word.contains(|c: char| c == '+' || c.is_ascii_lowercase()) {
+        return Err(Fault::NotUnderstood);
+    }
+    u16::from_str_radix(word, radix).map_err(|_| Fault::NotUnderstood)
 }
 
-pub(crate) fn set(list: &mut [u16], at: usize, value: usize) {
-    if at < list.len() {
-        list[at] = (value % 65536) as u16;
-    }
+// So many numbers.
+pub(crate) fn exactly<const N: usize>(numbers: Vec<u16>) -> Result<[u16; N], Fault> {
+    <[u16; N]>::try_from(numbers.as_slice()).map_err(|_| Fault::NotUnderstood)
 }
 
-// Each number of a list becomes another one, a byte that is not 0.
-pub(crate) fn mark(list: &mut [u16]) {
-    let mut at = 0;
-    while at < list.len() {
-        set(list, at, number(list, at) % 255 + 1);
-        at += 1;
-    }
+// Bytes that are text.
+pub(crate) fn text(bytes: &[u8]) -> Result<&str, Fault> {
+    str::from_utf8(bytes).map_err(|_| Fault::NotUnderstood)
 }
 
-// The first place before an end where two lists differ, or the end.
-pub(crate) fn first_difference(one: &[u16], other: &[u16], end: usize) -> usize {
-    let mut at = 0;
-    while at < end {
-        if number(one, at) != number(other, at) {
-            return at;
-        }
-        at += 1;
-    }
-    end
+// A text without the bytes 0 that it ends in.
+pub(crate) fn ended(text: &str) -> &str {
+    text.trim_end_matches('\0')
+}
+
+// Numbers as bytes.
+pub(crate) fn to_bytes(alloc: Global, numbers: &[u16]) -> Result<Vec<u8>, Fault> {
+    numbers
+        .iter()
+        .map(|number| u8::try_from(*number).map_err(|_| Fault::NotUnderstood))
+        .try_collect(alloc)
 }

@@ -21,14 +21,19 @@ use Rattle.ruling.proofs.Decisions.{ruled_group, over, over_start, over_none, ov
 use Rattle.sets.specs.Sets.{most, Next}
 use Rattle.targets.specs.Closed.{Closed}
 
--- What holds before a child of group i, which ends at end: the group's decision is the way of the running decision r, the child and
--- those after it, and the child is in the set or past the end.
-pub record Before (a : ℕ → Bool) (t : List ℕ) (i end child : ℕ) (r : Running) : Type 0 where
+-- What holds before the children of group i from node from up, to its end: the group's decision is the way of the running decision r and of
+-- those children.
+pub record Before (a : ℕ → Bool) (t : List ℕ) (i end from : ℕ) (r : Running) : Type 0 where
   pub reachable : Reachable r
-  pub whole : SpansInside t child end
-  pub later : i < child
-  pub in_set : child < end → a child ≡ true
-  pub left : decision a t i ≡ over a t r child end
+  pub whole : SpansInside t from end
+  pub later : i < from
+  pub left : decision a t i ≡ over a t r from end
+
+-- What holds before the child, the next of them that is in the set.
+pub record BeforeChild (a : ℕ → Bool) (t : List ℕ) (i end child : ℕ) (r : Running) : Type 0 where
+  pub before : Before a t i end child r
+  pub inside : child < count t
+  pub in_set : a child ≡ true
 
 module _ {a : ℕ → Bool} {t : List ℕ} (w : WellFormed t) (c : Closed t a) where
   -- the children up to the next that is in the set are out, and change nothing
@@ -55,44 +60,49 @@ module _ {a : ℕ → Bool} {t : List ℕ} (w : WellFormed t) (c : Closed t a) w
       (lt_or_ge i end))
       (eq-or-lt_of_le l)
 
-  -- from node j on, the next of the set is child
-  stepped : {i j end child : ℕ} {r : Running} → Reachable r → SpansInside t j end → i < j → Next most a j child →
-      decision a t i ≡ over a t r j end → Before a t i end child r
-  stepped {i} {j} {end} {child} s h l n e =
-      let is : child < end → a child ≡ true = λ m. n.passes (omega (arith, h.inside, w.few)) in
+  -- the first node after the group's own
+  pub before_first : {i end k s : ℕ} {r : Running} → (i < count t) × (a i ≡ true) → k ≡ kind t i → k < 4 → s ≡ span t i → end ≡ i + s →
+      Started k r → Before a t i end (i + 1) r
+  before_first {i} {end} {k} {s} {r} h ek lk es ee x =
+      let z : end ≡ end_of t i = omega arith in
       record {
-        reachable = s;
-        whole = record { inside = h.inside; each = λ m x y. h.each m (omega (arith, n.from)) y };
-        later = omega (arith, n.from);
-        in_set = is;
-        left = e ∙ skip (end - j) (omega arith) s h n.from n.between is;
+        reachable = x.reachable;
+        whole = rw z (whole_under t w i h.0);
+        later = omega arith;
+        left = sym (ruled_group a t i end k (over a t r (i + 1) end) h.1 ek lk z (sym (over_start a t (i + 1) end x)));
       }
 
-  -- the first child of the set
-  pub before_first : {i end child k s : ℕ} {r : Running} → (i < count t) × (a i ≡ true) → k ≡ kind t i → k < 4 → s ≡ span t i → end ≡ i + s →
-      Started k r → Next most a (i + 1) child → Before a t i end child r
-  before_first {i} {end} {child} {k} {s} {r} h ek lk es ee x n =
-      let z : end ≡ end_of t i = omega arith in
-      stepped x.reachable (rw z (whole_under t w i h.0)) (omega arith) n
-      (sym (ruled_group a t i end k (over a t r (i + 1) end) h.1 ek lk z (sym (over_start a t (i + 1) end x))))
+  module _ {i end from : ℕ} {r : Running} (h : Before a t i end from r) where
+    -- the end of the group is no further than a set reaches
+    pub end_within : end ≤ most
+    end_within = omega (arith, h.whole.inside, w.few)
 
-  module _ {i end child : ℕ} {r : Running} (h : Before a t i end child r) where
-    -- a child to be taken in is a node of the set
-    pub before_child : child < end → (child < count t) × (a child ≡ true)
-    before_child l = (omega (arith, h.whole.inside), h.in_set l)
-
-    -- the next is looked for no further than a set reaches
-    pub next_within : {s : ℕ} → child < end → s ≡ span t child → child + s ≤ most
-    next_within l es = omega (arith, h.whole.each child (omega arith) l, h.whole.inside, w.few)
-
-    -- the next child, once this one was taken in
-    pub before_next : {d s next : ℕ} {r' : Running} → child < end → d ≡ decision a t child → Taken r (as_child d true) r' →
-        s ≡ span t child → Next most a (child + s) next → Before a t i end next r'
-    before_next {d} {s} l ed k es n =
-        let z : child + s ≡ end_of t child = omega arith in
-        stepped k.reachable (rw z (whole_after t w child end h.whole)) (omega (arith, h.later)) n
-        (h.left ∙ over_more a t w h.reachable h.whole l z (h.in_set l) ed k)
+    -- the next child that is in the set
+    pub before_child : {child : ℕ} → Next end a from child × (child < end) → BeforeChild a t i end child r
+    before_child {child} (n, l) = record {
+      before = record {
+        reachable = h.reachable;
+        whole = record { inside = h.whole.inside; each = λ m x y. h.whole.each m (omega (arith, n.from)) y };
+        later = omega (arith, h.later, n.from);
+        left = h.left ∙ skip (end - from) (omega arith) h.reachable h.whole n.from n.between n.passes;
+      };
+      inside = omega (arith, h.whole.inside);
+      in_set = n.passes l;
+    }
 
     -- no child is left
-    pub before_end : end ≤ child → r.decision ≡ decision a t i
-    before_end l = sym (h.left ∙ over_none a t w h.reachable child end l)
+    pub before_end : from ≤ end → ((j : ℕ) → from ≤ j → j < end → a j ≡ false) → r.decision ≡ decision a t i
+    before_end l none =
+        sym
+        (h.left ∙ skip (end - from) (omega arith) h.reachable h.whole l none (λ m. absurd (omega arith))
+        ∙ over_none a t w h.reachable end end (omega arith))
+
+  -- the children after one, once it was taken in
+  pub before_next : {i end child d next : ℕ} {r r' : Running} → BeforeChild a t i end child r → child < end → d ≡ decision a t child →
+      Taken r (as_child d true) r' → next ≡ end_of t child → Before a t i end next r'
+  before_next {i} {end} {child} {d} h l ed k z = record {
+    reachable = k.reachable;
+    whole = rw z (whole_after t w child end h.before.whole);
+    later = omega (arith, h.before.later);
+    left = h.before.left ∙ over_more a t w h.before.reachable h.before.whole l z h.in_set ed k;
+  }

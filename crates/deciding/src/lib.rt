@@ -1,10 +1,10 @@
 // Evaluates a table, given the set of nodes that apply.
 #![tactic(auto)]
 
-ghost use Rattle.std.specs.Prelude.{◌≡◌, true, ◌<◌, length};
+ghost use Rattle.std.specs.Prelude.{◌≡◌, true, ◌<◌, ◌≤◌, length};
 ghost use Rattle.std.proofs.lemmas.List.Edits.{sets};
 ghost use Rattle.combining.specs.Table.{Combines};
-ghost use Rattle.sets.specs.Sets.{has};
+ghost use Rattle.sets.specs.Sets.{most, has, NextOrNone};
 ghost use Rattle.encoding.specs.Layout.{count};
 ghost use Rattle.table.specs.WellFormed.{WellFormed};
 ghost use Rattle.ruling.specs.Meaning.{decision, cards, meaning};
@@ -15,7 +15,16 @@ use encoding::layout::{card_at, count_at, kind_at, span_at};
 use ruling::groups::{Ruled, effect_of, put};
 use sets::Set;
 
+// The next node of the set from i up, below end.
+fn next_below(applying: Set, i: usize, end: usize) -> Option<usize>
+    requires { (i ≤ end) × (end ≤ most) }
+    ensures { NextOrNone end (has applying) i result }
+{
+    applying.next(i).filter(|node| *node < end)
+}
+
 // The decision of node i, which is in the set.
+#[tactic(auto, using(ruling::proofs::Steps::held))]
 fn decide(table: &[u8], ways: &Ways, applying: Set, i: usize) -> u8
     requires well_formed { WellFormed table.now × Combines ways.now }
     requires closed { Closed table.now (has applying) }
@@ -27,11 +36,12 @@ fn decide(table: &[u8], ways: &Ways, applying: Set, i: usize) -> u8
         Kind::FIRST_APPLICABLE..=Kind::DENY_OVERRIDES => {
             let end = i + span_at(table, i);
             let mut running = Running::start(kind);
-            let mut child = applying.next(i + 1);
-            while child < end {
+            let mut from = i + 1;
+            // The nodes under a child are stepped over, by its span: the members of the set one after another would be all of them.
+            while let Some(child) = next_below(applying, from, end) {
                 let decision = decide(table, ways, applying, child);
                 running = running.take(ways, decision, true);
-                child = applying.next(child + span_at(table, child));
+                from = child + span_at(table, child);
             }
             running.decision
         }
@@ -54,6 +64,7 @@ fn decide_root(table: &[u8], applying: Set) -> u8
 }
 
 // How many rules of the set there are. Their cards are stored in table order, as far as the list reaches.
+#[tactic(auto, using(encoding::proofs::Places::header_held, ruling::proofs::Steps::held))]
 fn gather(table: &[u8], applying: Set, list: &mut [u16]) -> usize
     requires { WellFormed table.now }
     ensures value { result ≡ length (cards (has applying) table.now) }
@@ -61,17 +72,16 @@ fn gather(table: &[u8], applying: Set, list: &mut [u16]) -> usize
 {
     let count = count_at(table);
     let mut stored = 0;
-    let mut i = applying.next(0);
-    while i < count {
-        let kind = kind_at(table, i);
-        match kind {
+    let mut from = 0;
+    while let Some(i) = next_below(applying, from, count) {
+        match kind_at(table, i) {
             Kind::FIRST_APPLICABLE..=Kind::DENY_OVERRIDES => {}
             _ => {
                 put(list, stored, card_at(table, i));
                 stored += 1;
             }
         }
-        i = applying.next(i + 1);
+        from = i + 1;
     }
     stored
 }

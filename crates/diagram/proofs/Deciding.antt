@@ -28,6 +28,10 @@ module _ (d : List ℕ) where
   pub sound_is : (b : Bool) → Decides (Sound fields d) b → b ≡ yes? (sound? fields d)
   sound_is b h = decides_same (Sound fields d) b (yes? (sound? fields d)) h (yes_decides (sound? fields d))
 
+  -- what is decided to be sound is sound
+  pub sound_so : yes? (sound? fields d) ≡ true → Sound fields d
+  sound_so h = subst (Decides (Sound fields d)) h (yes_decides (sound? fields d))
+
   -- what `not` of the decision about soundness says
   pub found_unsound : (b : Bool) → b ≡ yes? (sound? fields d) → not b ≡ true → Sound fields d → ⊥
   found_unsound b e = refuted (Sound fields d) b (subst (Decides (Sound fields d)) (sym e) (yes_decides (sound? fields d)))

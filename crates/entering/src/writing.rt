@@ -26,7 +26,7 @@ pub(crate) fn write_terminal(room: &mut [u16], decision: u8, cards: &[u16]) -> u
     room[0] = 0;
     room[1] = decision as u16;
     room[2] = count as u16;
-    store(cards, &mut room[3..]);
+    store(cards, room, 3);
     3 + count
 }
 

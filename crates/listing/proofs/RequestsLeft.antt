@@ -10,7 +10,7 @@ use Rattle.answer.specs.Fields.{fields}
 use Rattle.answer.specs.Order.{IsRequest, Precedes}
 use Rattle.diagram.specs.Layout.{maximum}
 use Rattle.diagram.specs.Sound.{Sound}
-use Rattle.std.specs.Prelude.{Option, Some, None}
+use Rattle.std.specs.Prelude.{Option, Some, None, IfSome}
 use Rattle.listing.specs.Paths.{after, Later}
 use Rattle.listing.specs.Listing.{Onward}
 
@@ -67,3 +67,7 @@ left_where (Some q) = suc (requests_left q)
 pub fewer_next : {d q : List ℕ} (r : Option (List ℕ)) → Sound fields d → IsRequest (maximum d) q → Onward d q (after r) → left_where r < left_where (Some q)
 fewer_next None s i o = omega arith
 fewer_next (Some n) s i o = omega (arith, fewer_left s i (o refl))
+
+pub request_next : {d q : List ℕ} (r : Option (List ℕ)) → Onward d q (after r) → IfSome r (λ (n : List ℕ). IsRequest (maximum d) n)
+request_next None o = tt
+request_next (Some n) o = (o refl).request

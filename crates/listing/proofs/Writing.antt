@@ -6,7 +6,8 @@ use native.Mathlib.Omega.{arith}
 use lib.ListN.{length, length-append}
 use lib.Seq.{sets, length-sets}
 use Rattle.answer.proofs.Stored.{stored_join}
-use Rattle.listing.specs.Written.{RoomFor, Written}
+use Rattle.listing.specs.declared.text.Text.{Text}
+use Rattle.listing.specs.Written.{RoomFor, Written, HasRoom, Puts}
 
 module _ (t : List ℕ) (a : ℕ) where
   pub none_written : Written t t a a []
@@ -41,32 +42,52 @@ module _ {t u : List ℕ} {a b : ℕ} {xs : List ℕ} (w : Written t u a b xs) w
         ends = omega (arith, w.ends, x.ends, length-append xs ys);
       }
 
--- Of all the bytes, from place a of text t on, those before the rest stand in text u, up to place b.
-pub record Partly (t : List ℕ) (a : ℕ) (all u : List ℕ) (b : ℕ) (rest : List ℕ) : Type 0 where
+-- the same of a text
+module _ {t u : Text} {xs : List ℕ} (p : Puts t u xs) where
+  pub puts_long : length u.bytes.now ≡ length t.bytes.now
+  puts_long = written_long p.written
+
+  pub puts_room : (ys : List ℕ) → HasRoom t (xs ++ ys) → HasRoom u ys
+  puts_room ys h = room_rest p.written ys h
+
+  pub puts_between : (ys zs : List ℕ) → HasRoom t (xs ++ (ys ++ zs)) → HasRoom u ys
+  puts_between ys zs h = room_between p.written ys zs h
+
+  pub puts_as : {ys : List ℕ} → xs ≡ ys → Puts t u ys
+  puts_as e = subst (Puts t u) e p
+
+  pub puts_join : {v : Text} (ys : List ℕ) → Puts u v ys → Puts t v (xs ++ ys)
+  puts_join ys q = record { written = written_join p.written ys q.written; same_reference = q.same_reference ∙ p.same_reference }
+
+pub none_put : (t : Text) → Puts t t []
+none_put t = record { written = none_written t.bytes.now t.end; same_reference = refl }
+
+-- Of all the bytes that a text is to hold, those before the rest are written.
+pub record Partly (before : Text) (all : List ℕ) (now : Text) (rest : List ℕ) : Type 0 where
   pub done : List ℕ
   pub splits : done ++ rest ≡ all
-  pub written : Written t u a b done
+  pub puts : Puts before now done
 
-module _ {t : List ℕ} {a : ℕ} {all : List ℕ} where
-  pub partly_none : {rest : List ℕ} → rest ≡ all → Partly t a all t a rest
-  partly_none e = record { done = []; splits = e; written = none_written t a }
+module _ {t : Text} {all : List ℕ} where
+  pub partly_none : {rest : List ℕ} → rest ≡ all → Partly t all t rest
+  partly_none e = record { done = []; splits = e; puts = none_put t }
 
-  module _ {u : List ℕ} {b : ℕ} {left : List ℕ} (p : Partly t a all u b left) where
+  module _ {u : Text} {left : List ℕ} (p : Partly t all u left) where
     -- the rest, where its first bytes are xs
     splits_further : (xs rest : List ℕ) → left ≡ xs ++ rest → all ≡ p.done ++ (xs ++ rest)
     splits_further xs rest s = sym p.splits ∙ ap (λ (l : List ℕ). p.done ++ l) s
 
     -- there is room for the first bytes of the rest
-    pub partly_first : (xs rest : List ℕ) → left ≡ xs ++ rest → RoomFor t a all → RoomFor u b xs
-    partly_first xs rest s h = room_between p.written xs rest (subst (RoomFor t a) (splits_further xs rest s) h)
+    pub partly_first : (xs rest : List ℕ) → left ≡ xs ++ rest → HasRoom t all → HasRoom u xs
+    partly_first xs rest s h = puts_between p.puts xs rest (subst (HasRoom t) (splits_further xs rest s) h)
 
-    pub partly_more : {xs rest v : List ℕ} {e : ℕ} → left ≡ xs ++ rest → Written u v b e xs → Partly t a all v e rest
+    pub partly_more : {xs rest : List ℕ} {v : Text} → left ≡ xs ++ rest → Puts u v xs → Partly t all v rest
     partly_more {xs} {rest} s w =
         record {
           done = p.done ++ xs;
           splits = append_assoc p.done xs rest ∙ sym (splits_further xs rest s);
-          written = written_join p.written xs w;
+          puts = puts_join p.puts xs w;
         }
 
-    pub partly_all : left ≡ [] → Written t u a b all
-    partly_all e = written_as p.written (sym (splits_further [] [] e ∙ append-nil p.done))
+    pub partly_all : left ≡ [] → Puts t u all
+    partly_all e = puts_as p.puts (sym (splits_further [] [] e ∙ append-nil p.done))

@@ -4,7 +4,7 @@
 pub mod lines;
 pub mod pages;
 pub mod paths;
-mod text;
+pub mod text;
 
 use answer::FIELDS;
 

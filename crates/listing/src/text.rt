@@ -1,84 +1,106 @@
-// Writing the items of a line into a text, from a place on. Each call hands back the place after what it wrote.
-ghost use Rattle.std.specs.Prelude.{[], ◌∷◌, ◌≤◌};
+// A text that is written item by item.
+ghost use Rattle.std.specs.Prelude.{◌≡◌, [], ◌∷◌, ◌≤◌, take, length};
 ghost use Rattle.listing.specs.Text.{newline, decimal, decision_word, range, items};
-ghost use Rattle.listing.specs.Written.{RoomFor, Written};
+ghost use Rattle.listing.specs.Written.{HasRoom, Puts};
 
 use combining::Decision;
 
-// Writes one byte.
-pub(crate) fn put(byte: u8, text: &mut [u8], at: usize) -> usize
-    requires { RoomFor text.old at (byte ∷ []) }
-    ensures { Written text.old text.new at result (byte ∷ []) }
-{
-    text[at] = byte;
-    at + 1
+// The bytes that a text has room for, and where those end that are written.
+#[derive(Drop)]
+pub struct Text<'a> {
+    pub bytes: &'a mut [u8],
+    pub end: usize,
 }
 
-// Writes the end of a line.
-pub(crate) fn end_line(text: &mut [u8], at: usize) -> usize
-    requires { RoomFor text.old at (newline ∷ []) }
-    ensures { Written text.old text.new at result (newline ∷ []) }
-{
-    put(b'\n', text, at)
-}
-
-// Writes some bytes.
-pub(crate) fn put_all(bytes: &[u8], text: &mut [u8], at: usize) -> usize
-    requires { RoomFor text.old at bytes.now }
-    ensures { Written text.old text.new at result bytes.now }
-{
-    let mut end = at;
-    for byte in bytes {
-        end = put(*byte, text, end);
+impl<'a> Text<'a> {
+    // A text of which nothing is written.
+    pub fn new(bytes: &'a mut [u8]) -> Text<'a>
+        ensures same_reference { result.bytes.ghost_name ≡ bytes.entry.ghost_name }
+        ensures bytes { result.bytes.now ≡ bytes.old }
+        ensures end { result.end ≡ 0 }
+    {
+        Text { bytes, end: 0 }
     }
-    end
-}
 
-// Writes a number's decimal digits: those of a tenth of it, then the last.
-pub(crate) fn put_decimal(number: usize, text: &mut [u8], at: usize) -> usize
-    requires { RoomFor text.old at (decimal number) }
-    ensures { Written text.old text.new at result (decimal number) }
-{
-    if number < 10 {
-        return put(b'0' + number as u8, text, at);
+    // What is written.
+    pub fn written(&self) -> &[u8]
+        requires { self.now.end ≤ length self.now.bytes.now }
+        ensures { result.now ≡ take self.now.end self.now.bytes.now }
+    {
+        let end = self.end;
+        &self.bytes[..end]
     }
-    let end = put_decimal(number / 10, text, at);
-    put(b'0' + (number % 10) as u8, text, end)
-}
 
-// Writes a decision's word.
-pub(crate) fn put_decision(decision: u8, text: &mut [u8], at: usize) -> usize
-    requires decision_bound { decision ≤ 3 }
-    requires room_for { RoomFor text.old at (decision_word decision) }
-    ensures { Written text.old text.new at result (decision_word decision) }
-{
-    match decision {
-        Decision::NOT_APPLICABLE => put_all(b"none", text, at),
-        Decision::PERMIT => put_all(b"may", text, at),
-        Decision::DENY => put_all(b"not", text, at),
-        _ => put_all(b"unclear", text, at),
+    // Writes one byte.
+    pub(crate) fn put(&mut self, byte: u8)
+        requires { HasRoom self.old (byte ∷ []) }
+        ensures { Puts self.old self.new (byte ∷ []) }
+    {
+        self.bytes[self.end] = byte;
+        self.end += 1;
     }
-}
 
-// Writes a range, its low and its high.
-pub(crate) fn put_range(low: usize, high: usize, text: &mut [u8], at: usize) -> usize
-    requires { RoomFor text.old at (range low high) }
-    ensures { Written text.old text.new at result (range low high) }
-{
-    let end = put_decimal(low, text, at);
-    let end = put(b'-', text, end);
-    put_decimal(high, text, end)
-}
-
-// Writes numbers, each after a space.
-pub(crate) fn put_items(numbers: &[u16], text: &mut [u8], at: usize) -> usize
-    requires { RoomFor text.old at (items numbers.now) }
-    ensures { Written text.old text.new at result (items numbers.now) }
-{
-    let mut end = at;
-    for number in numbers {
-        end = put(b' ', text, end);
-        end = put_decimal(usize::from(*number), text, end);
+    // Writes the end of a line.
+    pub(crate) fn end_line(&mut self)
+        requires { HasRoom self.old (newline ∷ []) }
+        ensures { Puts self.old self.new (newline ∷ []) }
+    {
+        self.put(b'\n');
     }
-    end
+
+    // Writes some bytes.
+    pub(crate) fn put_all(&mut self, bytes: &[u8])
+        requires { HasRoom self.old bytes.now }
+        ensures { Puts self.old self.new bytes.now }
+    {
+        for byte in bytes {
+            self.put(*byte);
+        }
+    }
+
+    // Writes a number's decimal digits: those of a tenth of it, if it has more than one, then the last.
+    pub(crate) fn put_decimal(&mut self, number: usize)
+        requires { HasRoom self.old (decimal number) }
+        ensures { Puts self.old self.new (decimal number) }
+    {
+        if 10 <= number {
+            self.put_decimal(number / 10);
+        }
+        self.put(b'0' + (number % 10) as u8);
+    }
+
+    // Writes a decision's word.
+    pub(crate) fn put_decision(&mut self, decision: u8)
+        requires decision_bound { decision ≤ 3 }
+        requires room_for { HasRoom self.old (decision_word decision) }
+        ensures { Puts self.old self.new (decision_word decision) }
+    {
+        match decision {
+            Decision::NOT_APPLICABLE => self.put_all(b"none"),
+            Decision::PERMIT => self.put_all(b"may"),
+            Decision::DENY => self.put_all(b"not"),
+            _ => self.put_all(b"unclear"),
+        }
+    }
+
+    // Writes a range, its low and its high.
+    pub(crate) fn put_range(&mut self, low: usize, high: usize)
+        requires { HasRoom self.old (range low high) }
+        ensures { Puts self.old self.new (range low high) }
+    {
+        self.put_decimal(low);
+        self.put(b'-');
+        self.put_decimal(high);
+    }
+
+    // Writes numbers, each after a space.
+    pub(crate) fn put_items(&mut self, numbers: &[u16])
+        requires { HasRoom self.old (items numbers.now) }
+        ensures { Puts self.old self.new (items numbers.now) }
+    {
+        for number in numbers {
+            self.put(b' ');
+            self.put_decimal(usize::from(*number));
+        }
+    }
 }

@@ -1,34 +1,17 @@
--- Laws of the search for an edge by halving, at a sound node, one for each way through the code.
-use mathlib.Core.Path.{◌≡◌, sym, ap, subst}
-use mathlib.Core.Logic.{⊎_elim}
-use mathlib.Core.List.{List}
-use Prim.Native.Nat.{ℕ, zero, suc, ◌+◌, ◌-◌, ◌≤◌, ◌<◌}
-use native.Mathlib.Omega.{arith}
+-- The edges of a sound node rise, so that the edge of a value is where those below the value end.
+use Rattle.std.proofs.Common.{◌≡◌, sym, ap, subst, ⊎_elim, true, false, List, [], ℕ, zero, suc, ◌-◌, ◌≤◌, ◌<◌, arith, add-one, ltb, get_or, length, ltb-true, ltb-false}
+use Rattle.std.specs.List.Sorted.{IsPartitionPoint, IsPartitionedBy}
+use Rattle.std.proofs.lemmas.List.Sorted.{IsNonDecreasingBy-from_default, IsPartitionedBy-ltb}
 use native.Mathlib.Nat.{eq-or-lt_of_le}
-use native.Mathlib.Numerals.{add-one}
-use Rattle.diagram.specs.Layout.{maximum, level_at, edges_at, last_at}
+use Rattle.diagram.specs.Layout.{maximum, level_at, edges_at, last_at, edge_at}
 use Rattle.diagram.specs.LookUp.{edge}
 use Rattle.diagram.specs.Sound.{SoundNode}
+use Rattle.diagram.specs.Decided.{lt?}
 use Rattle.diagram.proofs.FirstEdge.{edge_is}
 
--- the edge of value v lies from `low` up to `high`
-pub record Halved (d : List ℕ) (p v low high : ℕ) : Type 0 where
-  pub passed : (i : ℕ) → i < low → last_at d p i < v
-  pub reached : v ≤ last_at d p high
-  pub order : low ≤ high
-  pub real : high < edges_at d p
-
-module _ (d : List ℕ) (p v : ℕ) where
-  pub halved_down : (low high middle last : ℕ) → Halved d p v low high → low ≤ middle → middle < high → last ≡ last_at d p middle → v ≤ last → Halved d p v low middle
-  halved_down low high middle last a g h e l =
-      record { passed = a.passed; reached = omega arith; order = g; real = omega (arith, a.real) }
-
-  pub halved_one : (low high : ℕ) → Halved d p v low high → high ≤ low → (low ≡ edge d p v) × (low < edges_at d p)
-  halved_one low high a h =
-      let e : high ≡ low = omega (arith, a.order) in (
-        sym (edge_is d p v low (omega (arith, a.real, a.order)) a.passed (λ l. subst (λ (n : ℕ). v ≤ last_at d p n) e a.reached)),
-        omega (arith, a.real, a.order),
-      )
+-- the last value of an edge, a pair with its child's place
+abbrev pub last_of : List ℕ → ℕ
+last_of e = get_or e 0 0
 
 module _ (k : ℕ) (d : List ℕ) (p v : ℕ) (s : SoundNode k d p) where
   -- a later edge ends later
@@ -42,21 +25,28 @@ module _ (k : ℕ) (d : List ℕ) (p v : ℕ) (s : SoundNode k d p) where
       omega (arith, s.rising j (omega arith), ap (last_at d p) (add-one j)))
       (eq-or-lt_of_le h)
 
-  pub halved_all : (n : ℕ) → v ≤ maximum d (level_at d p - 1) → n ≡ edges_at d p → Halved d p v 0 (n - 1)
-  halved_all n h e =
-      subst (λ (m : ℕ). Halved d p v 0 (m - 1)) (sym e)
-      (record {
-        passed = λ i l. absurd (omega arith);
-        reached = omega (arith, s.ending);
-        order = omega arith;
-        real = omega (arith, s.some_edge);
-      })
+  module _ (edges : List (List ℕ)) (n : length edges ≡ edges_at d p) (each : (j : ℕ) → j < edges_at d p → get_or edges j [] ≡ edge_at d p j) where
+    last_is : (j : ℕ) → j < edges_at d p → last_of (get_or edges j []) ≡ last_at d p j
+    last_is j h = ap last_of (each j h)
 
-  pub halved_up : (low high middle last : ℕ) → Halved d p v low high → middle < high → last ≡ last_at d p middle → last < v → Halved d p v (middle + 1) high
-  halved_up low high middle last a h e l =
-      record {
-        passed = λ i g. omega (arith, last_rises i middle (omega arith) (omega (arith, a.real)));
-        reached = a.reached;
-        order = omega arith;
-        real = a.real;
-      }
+    -- those below the value stand first
+    pub edges_parted : IsPartitionedBy (λ e. ltb (last_of e) v) edges
+    edges_parted =
+        IsPartitionedBy-ltb last_of edges v
+        (IsNonDecreasingBy-from_default last_of edges []
+        (λ i j h l. omega (arith, last_is i (omega arith), last_is j (omega arith), last_rises i j h (omega arith))))
+
+    -- and where they end, the edge of the value is
+    pub part_is_edge : (i : ℕ) → i ≤ length edges → IsPartitionPoint (λ e. ltb (last_of e) v ≡ true) (λ e. ltb (last_of e) v ≡ false) edges i →
+        v ≤ maximum d (level_at d p - 1) → (i ≡ edge d p v) × (i < edges_at d p)
+    part_is_edge i most h within =
+        let before : (j : ℕ) → j < i → last_at d p j < v = λ j l.
+        omega (arith, last_is j (omega arith), ltb-true (last_of (get_or edges j [])) v (h.0 j [] (omega arith) l)) in
+        let real : i < edges_at d p =
+        ⊎_elim
+        (λ (l : i < edges_at d p). l)
+        (λ (n : i < edges_at d p → ⊥). absurd (omega (arith, n, before (edges_at d p - 1) (omega (arith, n, s.some_edge)), s.ending)))
+        (lt? i (edges_at d p)) in
+        let stops : i < edges_at d p → v ≤ last_at d p i = λ l.
+        omega (arith, last_is i l, ltb-false (last_of (get_or edges i [])) v (h.1 i [] (omega arith) (omega arith))) in
+        (sym (edge_is d p v i (omega arith) before stops), real)

@@ -13,6 +13,7 @@ use encoding::layout::MOST_BYTES;
 use listing::LINE;
 use listing::lines::{fields_line, refused_line};
 use listing::pages::fill;
+use listing::text::Text;
 use std::io;
 use std::io::Read;
 
@@ -34,6 +35,7 @@ fn read_full(input: &mut impl Read, buffer: &mut [u8]) -> io::Result<usize>
     ensures { ReadsAtMost result buffer.new }
 {
     let mut done = 0;
+    // Not `read_exact`, which fails where the input ends early, nor `read_to_end`, which needs a heap.
     while done < buffer.len() {
         let n = input.read(&mut buffer[done..])?;
         if n == 0 {
@@ -55,23 +57,24 @@ fn print_rulings(rt: &impl Print, table: &[u8]) -> io::Result<()> {
 }
 
 fn print_refusal(rt: &impl Print, refusal: Answer) -> io::Result<()> {
-    let mut text = [0u8; LINE];
-    let end = refused_line(refusal.number, refusal.place, &mut text, 0);
-    rt.write_all(&text[..end])
+    let mut bytes = [0u8; LINE];
+    let mut text = Text::new(&mut bytes);
+    refused_line(refusal.number, refusal.place, &mut text);
+    rt.write_all(text.written())
 }
 
 // Prints every path of a sound diagram, in rising order, a text full of lines at a time.
 fn print_listing(rt: &impl Print, diagram: &[u16]) -> io::Result<()>
     requires { Sound fields diagram.now }
 {
-    let mut text = empty_page();
-    let mut end = fields_line(diagram, &mut text, 0);
+    let mut bytes = empty_page();
+    let mut text = Text::new(&mut bytes);
+    fields_line(diagram, &mut text);
     let mut next = Some([0u16; FIELDS]);
     while let Some(values) = next {
-        let page = fill(diagram, values, &mut text, end);
-        rt.write_all(&text[..page.end])?;
-        next = page.next;
-        end = 0;
+        next = fill(diagram, values, &mut text);
+        rt.write_all(text.written())?;
+        text.end = 0;
     }
     Ok(())
 }

@@ -2,3 +2,4 @@
 pub mod NumberByNumber
 pub mod EdgeByEdge
 pub mod EntryByEntry
+pub mod CheckedNumbers

@@ -1,7 +1,9 @@
 -- What the proofs of several functions use, and the theorems about reading.
 pub mod Tree
 pub mod Faults
+pub mod FieldByField
 pub mod Climb
+pub mod NodesAbove
 pub mod Header
 pub mod Good
 pub mod Accepting

@@ -1,15 +1,18 @@
 // Reading a table: refusals 1 to 8, in one pass over the nodes.
-ghost use Rattle.std.specs.Prelude.{◌≡◌, ◌&&◌, ◌+◌, ◌≤◌, ◌<◌, eqb};
+ghost use Rattle.std.specs.Prelude.{◌≡◌, not, ◌&&◌, ◌||◌, ◌+◌, ◌^◌, ◌<◌, eqb, ltb, IfOk};
+ghost use Rattle.answer.specs.Answers.{refused, blank, counted};
 ghost use Rattle.answer.specs.Fields.{fields};
-ghost use Rattle.answer.specs.Refusals.{first_number};
-ghost use Rattle.encoding.specs.Layout.{HeaderHeld, NodeHeld};
+ghost use Rattle.answer.specs.Numbers.{answer_by};
+ghost use Rattle.answer.specs.Refusals.{settled};
+ghost use Rattle.encoding.specs.Layout.{count, HeaderHeld, NodeHeld};
 ghost use Rattle.table.specs.Tree.{is_rule, level};
-ghost use Rattle.table.specs.Open.{deepest, EndAbove};
-ghost use Rattle.table.specs.Conformance.{asks_for_rules, conforms};
+ghost use Rattle.table.specs.Open.{EndAbove};
+ghost use Rattle.table.specs.Conformance.{conforms};
 ghost use Rattle.table.specs.Reading.{length_fault, version_fault, count_fault, odd_span, span_fault, range_fault, ranges_fault, card_fault};
 ghost use Rattle.table.specs.Reading.{header_refusals, refusals_after_kind, node_refusals, reading};
 
-use answer::{Answer, FIELDS};
+use crate::open_node::{OpenNode, depth_above};
+use answer::{Answer, FIELDS, Refusal, Refused};
 use combining::Kind;
 use encoding::layout::{
     LEVELS, NODES, Range, VERSION, card_at, count_at, header_size, kind_at, maximum_at, range_at,
@@ -20,11 +23,7 @@ use encoding::layout::{
 fn length_fault(table: &[u8]) -> bool
     ensures { result ≡ length_fault table.now }
 {
-    if table.len() < header_size(table) {
-        true
-    } else {
-        table.len() != word_at(table, 0) as usize + 2
-    }
+    table.len() < header_size(table) || table.len() != usize::from(word_at(table, 0)) + 2
 }
 
 // Refusal 2: another version.
@@ -35,33 +34,34 @@ fn version_fault(table: &[u8]) -> bool
     table[VERSION] != 1
 }
 
+// No nodes, or too many.
+fn odd_count(n: usize) -> bool
+    ensures { result ≡ (eqb n 0 || ltb 128 n) }
+{
+    n == 0 || NODES < n
+}
+
 // Refusal 3: no nodes, too many, or not the records that the count says.
 fn count_fault(table: &[u8]) -> bool
     requires { HeaderHeld table.now }
     ensures { result ≡ count_fault table.now }
 {
     let n = count_at(table);
-    if n == 0 {
-        true
-    } else if NODES < n {
-        true
-    } else {
-        table.len() != start_of(table, n)
-    }
+    odd_count(n) || table.len() != start_of(table, n)
 }
 
-// The number of the refusal of the whole table, or 0.
-fn header_fault(table: &[u8]) -> u8
-    ensures { result ≡ first_number (header_refusals table.now) }
+// The refusals of the whole table, 1 to 3.
+fn check_header(table: &[u8]) -> Result<(), Refused>
+    ensures { answer_by (λ _. blank) result ≡ settled refused blank (header_refusals table.now) }
 {
     if length_fault(table) {
-        1
+        Err(Refusal::Length.at(0))
     } else if version_fault(table) {
-        2
+        Err(Refusal::Version.at(0))
     } else if count_fault(table) {
-        3
+        Err(Refusal::NodeCount.at(0))
     } else {
-        0
+        Ok(())
     }
 }
 
@@ -69,13 +69,15 @@ fn header_fault(table: &[u8]) -> u8
 fn odd_span(span: usize, rule: bool) -> bool
     ensures { result ≡ odd_span span rule }
 {
-    if span == 0 {
-        true
-    } else if rule {
-        span != 1
-    } else {
-        false
-    }
+    span == 0 || rule && span != 1
+}
+
+// A span past the parent's end, which is `above`, or a root's that is not the count, which is `above` there.
+fn wrong_end(i: usize, span: usize, above: usize) -> bool
+    requires { i + span < 2 ^ 64 }
+    ensures { result ≡ (ltb above (i + span) || (eqb i 0 && not (eqb span above))) }
+{
+    above < i + span || i == 0 && span != above
 }
 
 // Refusal 5; `above` is the parent's end.
@@ -85,15 +87,7 @@ fn span_fault(table: &[u8], i: usize, rule: bool, above: usize) -> bool
     ensures { result ≡ span_fault table.now i }
 {
     let span = span_at(table, i);
-    if odd_span(span, rule) {
-        true
-    } else if above < i + span {
-        true
-    } else if i == 0 {
-        span != above
-    } else {
-        false
-    }
+    odd_span(span, rule) || wrong_end(i, span, above)
 }
 
 // Refusal 7 in one field.
@@ -104,7 +98,7 @@ fn range_fault(table: &[u8], i: usize, field: usize) -> bool
 {
     let maximum = maximum_at(table, field);
     let Range { low, high } = range_at(table, i, field);
-    if maximum < low { true } else { maximum < high }
+    maximum < low || maximum < high
 }
 
 // Refusal 7: a low or a high over the maximum.
@@ -112,14 +106,7 @@ fn ranges_fault(table: &[u8], i: usize) -> bool
     requires { NodeHeld table.now i }
     ensures { result ≡ ranges_fault table.now i }
 {
-    let mut field = 0;
-    while field < FIELDS {
-        if range_fault(table, i, field) {
-            return true;
-        }
-        field += 1;
-    }
-    false
+    (0..FIELDS).any(|field| range_fault(table, i, field))
 }
 
 // Refusal 8: a rule with card 0, or a group with another.
@@ -133,53 +120,44 @@ fn card_fault(table: &[u8], i: usize, rule: bool) -> bool
 }
 
 // Refusals 5 to 8 of node i, under a node on level depth.
-fn fault_of(table: &[u8], i: usize, rule: bool, above: usize, depth: usize) -> u8
+fn check_after_kind(
+    table: &[u8],
+    i: usize,
+    rule: bool,
+    above: usize,
+    depth: usize,
+) -> Result<(), Refused>
     requires node_held { NodeHeld table.now i }
     requires rule_value { (rule ≡ is_rule table.now i) × EndAbove table.now i above }
     requires i_value { level table.now i ≡ depth + 1 }
-    ensures { result ≡ first_number (refusals_after_kind table.now i) }
+    ensures { answer_by (λ _. blank) result ≡ settled refused blank (refusals_after_kind table.now i) }
 {
     if span_fault(table, i, rule, above) {
-        5
+        Err(Refusal::Span.at(i))
     } else if LEVELS <= depth {
-        6
+        Err(Refusal::Level.at(i))
     } else if ranges_fault(table, i) {
-        7
+        Err(Refusal::Range.at(i))
     } else if card_fault(table, i, rule) {
-        8
+        Err(Refusal::Card.at(i))
     } else {
-        0
+        Ok(())
     }
 }
 
-// The number of the refusal of node i, or 0.
-fn node_fault(table: &[u8], i: usize, above: usize, depth: usize) -> u8
+// The refusals of node i, 4 to 8.
+fn check_node(table: &[u8], i: usize, above: usize, depth: usize) -> Result<(), Refused>
     requires node_held { NodeHeld table.now i }
     requires end_above { EndAbove table.now i above × (level table.now i ≡ depth + 1) }
-    ensures { result ≡ first_number (node_refusals table.now i) }
+    ensures { answer_by (λ _. blank) result ≡ settled refused blank (node_refusals table.now i) }
 {
-    let kind = kind_at(table, i);
-    match kind {
-        Kind::FIRST_APPLICABLE..=Kind::DENY_OVERRIDES => fault_of(table, i, false, above, depth),
-        Kind::PERMIT_RULE..=Kind::DENY_RULE => fault_of(table, i, true, above, depth),
-        _ => 4,
+    match kind_at(table, i) {
+        Kind::FIRST_APPLICABLE..=Kind::DENY_OVERRIDES => check_after_kind(
+            table, i, false, above, depth,
+        ),
+        Kind::PERMIT_RULE..=Kind::DENY_RULE => check_after_kind(table, i, true, above, depth),
+        _ => Err(Refusal::Kind.at(i)),
     }
-}
-
-// The level of the node right above node i, by climbing from the deepest level that is open: ends says where the open node of each
-// level ends. A node opens at most one level and that is left once, so all climbs together leave no more levels than there are nodes.
-pub(crate) fn depth_above(ends: &[usize; LEVELS + 1], depth: usize, i: usize) -> usize
-    requires { depth ≤ 8 }
-    ensures { (result ≡ deepest ends.now i depth) × (result ≤ depth) }
-{
-    let mut d = depth;
-    while 0 < d {
-        if i < ends[d] {
-            return d;
-        }
-        d -= 1;
-    }
-    0
 }
 
 // Whether node i is a rule.
@@ -187,90 +165,39 @@ pub fn rule_at(table: &[u8], i: usize) -> bool
     requires { NodeHeld table.now i }
     ensures { result ≡ is_rule table.now i }
 {
-    let kind = kind_at(table, i);
-    match kind {
-        Kind::FIRST_APPLICABLE..=Kind::DENY_OVERRIDES => false,
-        _ => true,
-    }
+    kind_at(table, i) > Kind::DENY_OVERRIDES
 }
 
-// Whether group i's children must be rules under the profile. It has a child.
-fn asks_for_rules(table: &[u8], i: usize) -> bool
-    requires { NodeHeld table.now i × NodeHeld table.now (i + 1) }
-    ensures { result ≡ asks_for_rules table.now i }
+// Reads a table: the first refusal, or whether the table conforms to the convention profile, that is whether each node is a rule exactly
+// where its parent's children must be rules.
+pub fn read_conformance(table: &[u8]) -> Result<bool, Refused>
+    ensures value { answer_by (λ _. counted (count table.now)) result ≡ reading table.now }
+    ensures conforming { IfOk result (λ conforming. conforming ≡ conforms table.now) }
 {
-    if kind_at(table, i) == Kind::ONLY_ONE_APPLICABLE {
-        false
-    } else {
-        rule_at(table, i + 1)
-    }
-}
-
-// What a reading finds: the number and the place of the first refusal, or 0; and where there is none, whether the table conforms to the
-// convention profile.
-#[derive(Clone, Copy)]
-pub struct Reading {
-    pub number: u8,
-    pub place: usize,
-    pub conforms: bool,
-}
-
-// Reads a table, and checks whether it conforms to the profile: each node is a rule exactly where its parent's children must be rules.
-pub fn read_conformance(table: &[u8]) -> Reading
-    ensures number_value { (result.number ≡ (reading table.now).number) × (result.place ≡ (reading table.now).place) }
-    ensures conforms_value { result.conforms ≡ (eqb result.number 0 && conforms table.now) }
-{
-    let number = header_fault(table);
-    if number != 0 {
-        return Reading {
-            number,
-            place: 0,
-            conforms: false,
-        };
-    }
+    check_header(table)?;
     let n = count_at(table);
-    // For each level, where its open node ends, and whether that node's children must be rules. Level 0 is the table itself, whose child must be a group.
-    let mut ends = [n; LEVELS + 1];
-    let mut rules = [false; LEVELS + 1];
-    let mut conforms = true;
+    let mut open_nodes = OpenNode::whole(n);
     let mut depth = 0;
-    let mut i = 0;
-    while i < n {
-        depth = depth_above(&ends, depth, i);
-        let above = ends[depth];
-        let number = node_fault(table, i, above, depth);
-        if number != 0 {
-            return Reading {
-                number,
-                place: i,
-                conforms: false,
-            };
-        }
-        conforms = conforms & (rule_at(table, i) == rules[depth]);
-        let span = span_at(table, i);
-        // A node without children opens no level.
-        if 1 < span {
+    let mut conforming = true;
+    for i in 0..n {
+        depth = depth_above(&open_nodes, depth, i);
+        let parent = open_nodes[depth];
+        check_node(table, i, parent.end, depth)?;
+        conforming &= rule_at(table, i) == parent.rules;
+        if let Some(node) = OpenNode::opened(table, i) {
             depth += 1;
-            ends[depth] = i + span;
-            rules[depth] = asks_for_rules(table, i);
+            open_nodes[depth] = node;
         }
-        i += 1;
     }
-    Reading {
-        number: 0,
-        place: 0,
-        conforms,
-    }
+    Ok(conforming)
 }
 
 // Reads a table: the number of its nodes, or the first refusal.
 pub fn read(table: &[u8]) -> Answer
     ensures { result ≡ reading table.now }
 {
-    let found = read_conformance(table);
-    if found.number != 0 {
-        Answer::refused(found.number, found.place)
-    } else {
-        Answer::counted(count_at(table))
+    match read_conformance(table) {
+        Ok(_) => Answer::counted(count_at(table)),
+        Err(refused) => Answer::from(refused),
     }
 }

@@ -1,66 +1,36 @@
 -- `deciding::decide` meets its contract: a group's running decision takes in its children of the set, one after another.
-use Rattle.std.proofs.Common.{◌≡◌, ℕ, ◌<◌, true, refl, arith}
-use Rattle.encoding.specs.Layout.{count}
-use Rattle.ruling.proofs.Steps.{held}
+use Rattle.std.proofs.Common.{ℕ, ◌+◌, refl, arith}
 use Rattle.ruling.proofs.Decisions.{takes, ruled_rule}
 use Rattle.sets.specs.Sets.{has}
-use Rattle.deciding.proofs.MemberByMember.{before_first, before_child, before_next, before_end, next_within}
+use Rattle.deciding.proofs.MemberByMember.{BeforeChild, before_first, before_child, before_next, before_end}
 use Rattle.deciding.proofs.+decide.Goals as goal
-use Rattle.deciding.proofs.+decide.Goals.{In-loop-child}
-
-pub kind_at-kind-requires : goal.kind_at-kind-requires
-kind_at-kind-requires t c = held c.args.table.now c.requires.well_formed.0 c.args.i c.requires.i_bound.0
-
-pub span_at-requires : goal.span_at-requires
-span_at-requires t c = held c.args.table.now c.requires.well_formed.0 c.args.i c.requires.i_bound.0
+use Rattle.deciding.proofs.+decide.Goals.{In-Some}
 
 pub loop-child-init : goal.loop-child-init
-loop-child-init t c =
-    before_first c.requires.well_formed.0 c.requires.closed c.requires.i_bound c.kind_at-kind.ensures (omega arith) c.span_at.ensures.0 refl
-    c.start-running.ensures c.next-child.ensures
+loop-child-init t c = (
+  omega (arith, c.span_at.ensures.0, c.requires.well_formed.0.spans c.args.i c.requires.i_bound.0),
+  before_first c.requires.well_formed.0 c.requires.closed c.requires.i_bound c.kind_at-kind.ensures (omega arith) c.span_at.ensures.0 refl c.start-running.ensures,
+)
 
--- the child is a node of the table, and in the set
-child_given : {t : ℕ} (c : In-loop-child t) → (c.loop-child.child < count c.args.table.now) × (has c.args.applying c.loop-child.child ≡ true)
-child_given c = before_child c.requires.well_formed.0 c.requires.closed c.loop-child.invariant c.loop-child-test.true
-
-pub decide-decision-requires : goal.decide-decision-requires
-decide-decision-requires t c =
-    let g = child_given (goal.at.decide-decision-requires t c).In-loop-child in (
-      omega (arith, c.loop-child.invariant.later, g.0, c.requires.well_formed.0.few, c.decreases),
-      (c.requires.well_formed, (c.requires.closed, g)),
-    )
+child_in : {t : ℕ} (c : In-Some t) → BeforeChild (has c.args.applying) c.args.table.now c.args.i (c.args.i + c.span_at.result) c.in-Some.child c.loop-child.running
+child_in c = before_child c.requires.well_formed.0 c.requires.closed c.loop-child.invariant.1 c.in-Some.ensures
 
 pub take-running-requires : goal.take-running-requires
 take-running-requires t c = (
   c.requires.well_formed.1,
-  takes (has c.args.applying) c.args.table.now c.loop-child.child c.loop-child.invariant.reachable c.decide-decision.ensures,
+  takes (has c.args.applying) c.args.table.now c.in-Some.child c.loop-child.invariant.1.reachable c.decide-decision.ensures,
 )
-
-pub span_at-requires-in-loop-child : goal.span_at-requires-in-loop-child
-span_at-requires-in-loop-child t c =
-    held c.args.table.now c.requires.well_formed.0 c.loop-child.child (child_given (goal.at.span_at-requires-in-loop-child t c).In-loop-child).0
-
-pub overflow_add-child : goal.overflow_add-child
-overflow_add-child t c =
-    omega (arith, next_within c.requires.well_formed.0 c.requires.closed c.loop-child.invariant c.loop-child-test.true c.span_at-in-loop-child.ensures.0)
-
-pub next-child-requires-in-loop-child : goal.next-child-requires-in-loop-child
-next-child-requires-in-loop-child t c =
-    next_within c.requires.well_formed.0 c.requires.closed c.loop-child.invariant c.loop-child-test.true c.span_at-in-loop-child.ensures.0
-
-pub loop-child-smaller : goal.loop-child-smaller
-loop-child-smaller t c =
-    let w = c.requires.well_formed.0 in
-    let g = child_given (goal.at.loop-child-smaller t c).In-loop-child in
-    omega (arith, c.next-child-in-loop-child.ensures.from, c.span_at-in-loop-child.ensures.0, w.spans c.loop-child.child g.0, g.0, w.few)
 
 pub loop-child-preserved : goal.loop-child-preserved
 loop-child-preserved t c =
-    before_next c.requires.well_formed.0 c.requires.closed c.loop-child.invariant c.loop-child-test.true c.decide-decision.ensures
-    c.take-running.ensures c.span_at-in-loop-child.ensures.0 c.next-child-in-loop-child.ensures
+    let w = c.requires.well_formed.0 in
+    let b = child_in (goal.at.loop-child-preserved t c).In-Some in (
+      omega (arith, c.span_at-in-Some.ensures.0, b.before.whole.each c.in-Some.child (omega arith) c.in-Some.ensures.1),
+      before_next w c.requires.closed b c.in-Some.ensures.1 c.decide-decision.ensures c.take-running.ensures (omega (arith, c.span_at-in-Some.ensures.0)),
+    )
 
-pub returns-after-loop-child : goal.returns-after-loop-child
-returns-after-loop-child t c = before_end c.requires.well_formed.0 c.requires.closed c.loop-child.invariant c.loop-child-test.false
+pub returns-in_default-next_below : goal.returns-in_default-next_below
+returns-in_default-next_below t c = before_end c.requires.well_formed.0 c.requires.closed c.loop-child.invariant.1 c.loop-child.invariant.0 c.in_default-next_below.ensures
 
 pub returns-in_default : goal.returns-in_default
 returns-in_default t c =

@@ -2,31 +2,32 @@
 use Rattle.std.proofs.Common.{◌≡◌, refl, length, arith}
 use Rattle.answer.specs.Fields.{fields}
 use Rattle.diagram.proofs.Descent.{down_none, edge_asked, down_more, landed}
+use Rattle.soundness.proofs.CheckedNumbers.{numbers_sound}
 use Rattle.lookup.proofs.descend.Goals as goal
 
 pub bounds-diagram-1 : goal.bounds-diagram-1
-bounds-diagram-1 c = omega (arith, c.requires.sound.header_there)
+bounds-diagram-1 c = omega (arith, (numbers_sound c.args.diagram).header_there)
 
-pub loop-field-init : goal.loop-field-init
-loop-field-init c = down_none c.args.diagram.now c.requires.sound c.args.values c.requires.within _ refl
+pub loop-value-init : goal.loop-value-init
+loop-value-init c = down_none c.args.diagram.numbers.now (numbers_sound c.args.diagram) c.args.values c.requires c.from-place.result c.from-place.ensures
 
 pub child_of-place-requires : goal.child_of-place-requires
 child_of-place-requires c =
-    let a = c.loop-field in
-    let l = c.loop-field-test.true in
-    let e = edge_asked c.args.diagram.now c.requires.sound a.place a.field a.invariant.entry l _ (c.requires.within a.field l) in
+    let a = c.loop-value in
+    let l = c.loop-value-test.true in
+    let e = edge_asked c.args.diagram.numbers.now (numbers_sound c.args.diagram) a.place a.value-index a.invariant.entry l _ (c.requires a.value-index l) in
     record { place_lt_most_places = e.0; sound_node = e.1.0; value_bound = e.1.1 }
 
-pub loop-field-preserved : goal.loop-field-preserved
-loop-field-preserved c =
-    let a = c.loop-field in
-    let l = c.loop-field-test.true in
+pub loop-value-preserved : goal.loop-value-preserved
+loop-value-preserved c =
+    let a = c.loop-value in
+    let l = c.loop-value-test.true in
     let long : length c.args.values ≡ fields = omega arith in
-    down_more c.args.diagram.now c.requires.sound c.args.values c.requires.within a.place a.field a.invariant l
+    down_more c.args.diagram.numbers.now (numbers_sound c.args.diagram) c.args.values c.requires a.place a.value-index a.invariant l
     (omega (arith, long)) _ c.child_of-place.result refl c.child_of-place.ensures.0
 
 pub returns : goal.returns
 returns c =
-    let a = c.loop-field in
+    let a = c.loop-value in
     let long : length c.args.values ≡ fields = omega arith in
-    landed c.args.diagram.now c.requires.sound c.args.values c.requires.within a.place a.field a.invariant c.loop-field-test.false long
+    landed c.args.diagram.numbers.now (numbers_sound c.args.diagram) c.args.values c.requires a.place a.value-index a.invariant c.loop-value-test.false long
