@@ -62,7 +62,7 @@ module _ (t : List ℕ) where
         ((first : Refusal) → First rs first → First (table_refusals t) first) → refused (number_of r.refusal) r.place ≡ reading t
     refused_there rs e among =
         let f = number_first refused (λ a. a.number) (λ number place. refl) blank refl rs (refused (number_of r.refusal) r.place) e
-            (λ z. omega (arith, z, number_positive r.refusal)) in
+        (λ z. omega (arith, z, number_positive r.refusal)) in
         f.1.1 ∙ sym (settled_first refused (counted (count t)) (table_refusals t) (among f.0 f.1.0))
 
     pub header_refused : refused (number_of r.refusal) r.place ≡ settled refused blank (header_refusals t) →

@@ -120,7 +120,13 @@ fn card_fault(table: &[u8], i: usize, rule: bool) -> bool
 }
 
 // Refusals 5 to 8 of node i, under a node on level depth.
-fn check_after_kind(table: &[u8], i: usize, rule: bool, above: usize, depth: usize) -> Result<(), Refused>
+fn check_after_kind(
+    table: &[u8],
+    i: usize,
+    rule: bool,
+    above: usize,
+    depth: usize,
+) -> Result<(), Refused>
     requires node_held { NodeHeld table.now i }
     requires rule_value { (rule ≡ is_rule table.now i) × EndAbove table.now i above }
     requires i_value { level table.now i ≡ depth + 1 }
@@ -146,7 +152,9 @@ fn check_node(table: &[u8], i: usize, above: usize, depth: usize) -> Result<(), 
     ensures { answer_by (λ _. blank) result ≡ settled refused blank (node_refusals table.now i) }
 {
     match kind_at(table, i) {
-        Kind::FIRST_APPLICABLE..=Kind::DENY_OVERRIDES => check_after_kind(table, i, false, above, depth),
+        Kind::FIRST_APPLICABLE..=Kind::DENY_OVERRIDES => check_after_kind(
+            table, i, false, above, depth,
+        ),
         Kind::PERMIT_RULE..=Kind::DENY_RULE => check_after_kind(table, i, true, above, depth),
         _ => Err(Refusal::Kind.at(i)),
     }
