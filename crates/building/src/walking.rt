@@ -88,7 +88,7 @@ fn walk_once(
 }
 
 // Walks the fields from one on, where the fields before it leave a set of nodes possible: everything under a run of values
-// is entered, then the node itself. 
+// is entered, then the node itself.
 #[cycle(walk_walk_once)]
 fn walk(
     table: &[u8],
@@ -114,20 +114,14 @@ fn walk(
     while value <= most {
         let here = possible.meet(set_at(&sets[field], value));
         let until = run_end(&sets[field], value);
-        let place = walk_once(
-            table,
-            sets,
-            field + 1,
-            here,
-            near,
-            diagram,
-            memory,
-        )?;
+        let place = walk_once(table, sets, field + 1, here, near, diagram, memory)?;
         near = Some(Known { nodes: here, place });
         memory.edges[field].extend(until as u16, place as u16);
         value = until + 1;
     }
-    memory.index.enter_node(diagram, field as u16 + 1, &memory.edges[field])
+    memory
+        .index
+        .enter_node(diagram, field as u16 + 1, &memory.edges[field])
 }
 
 // Walks all fields, in a cleared diagram.

@@ -13,7 +13,12 @@ use crate::writing::{NODE, TERMINAL, write_node, write_terminal};
 
 impl Index {
     // Enters a terminal: a new one is written into the part of the diagram that starts after the last entry. Where it stands, if there is room.
-    pub fn enter_terminal(&mut self, diagram: &mut [u16], decision: u8, cards: &[u16]) -> Option<usize>
+    pub fn enter_terminal(
+        &mut self,
+        diagram: &mut [u16],
+        decision: u8,
+        cards: &[u16],
+    ) -> Option<usize>
         requires { Room (length diagram.old) self.old.end × (length cards.now ≤ 127) }
         ensures bounded { Bounded diagram.old self.old.slots self.old.end diagram.new self.new.slots self.new.end result }
         ensures standing { (es : Entries) → Laid es diagram.old self.old.slots self.old.end → Standing (enter (header fields) es (terminal (record { decision = decision; cards = cards.now }))) (length diagram.old) diagram.new self.new.slots self.new.end result }

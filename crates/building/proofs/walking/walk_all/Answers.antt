@@ -31,5 +31,5 @@ returns c =
     let d = c.args.diagram.now in (
       c.walk.new.memory.index.slots,
       all_walked c.args.table.now c.requires.well_formed c.full.result c.full.ensures (length d) 701 d (zeros 8192) c.requires.diagram_value c.requires.room.1
-      none_indexed c.in_ok-place.ensures.walks,
+          none_indexed c.in_ok-place.ensures.walks,
     )
