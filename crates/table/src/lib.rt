@@ -2,7 +2,6 @@
 #![tactic(auto)]
 
 pub mod levels;
-mod open_node;
 pub mod reading;
 
 pub use reading::read;

@@ -8,10 +8,11 @@ use Rattle.table.proofs.reading.range_fault.Goals as goal
 pub maximum_at-maximum-requires : goal.maximum_at-maximum-requires
 maximum_at-maximum-requires c = (node_header c.args.table.now c.args.i c.requires.node_held, c.requires.field_lt_fields)
 
-pub returns-then-maximum-low_at : goal.returns-then-maximum-low_at
-returns-then-maximum-low_at c =
-    lt-ltb _ _ c.if-maximum-low_at.true
-    ∙ range_low c.args.table.now c.args.i c.args.field _ _ c.maximum_at-maximum.ensures c.low_at.ensures c.if-maximum-low_at.true
+pub returns-then-maximum-range : goal.returns-then-maximum-range
+returns-then-maximum-range c =
+    lt-ltb _ _ c.if-maximum-range.true
+    ∙ range_low c.args.table.now c.args.i c.args.field _ _ c.maximum_at-maximum.ensures c.range_at-range.ensures.0 c.if-maximum-range.true
 
-pub returns-else-maximum-low_at : goal.returns-else-maximum-low_at
-returns-else-maximum-low_at c = range_high c.args.table.now c.args.i c.args.field _ _ c.maximum_at-maximum.ensures c.low_at.ensures _ c.high_at.ensures c.if-maximum-low_at.false
+pub returns-else-maximum-range : goal.returns-else-maximum-range
+returns-else-maximum-range c =
+    range_high c.args.table.now c.args.i c.args.field _ _ c.maximum_at-maximum.ensures c.range_at-range.ensures.0 _ c.range_at-range.ensures.1 c.if-maximum-range.false
