@@ -10,9 +10,9 @@ ghost use Rattle.applying.specs.Members.{range_holds, member};
 ghost use Rattle.applying.specs.Filled.{set_at, last_at, run_end, Runs, KeptPastMaximum, FieldFilled, ValuesFilled, SetRows, Filled, KeptPastMaxima};
 
 use answer::FIELDS;
-use encoding::layout::{count_at, high_of, low_of, maximum_at, ranges_at, span_at};
+use encoding::layout::{count_at, maximum_at, range_of, ranges_at, span_at};
 use sets::Set;
-use targets::byte_in_range;
+use targets::in_range;
 
 // How many values a field may have.
 pub const VALUES: usize = 256;
@@ -30,10 +30,11 @@ fn holds(table: &[u8], field: usize, value: u8, i: usize) -> bool
     ensures { result ≡ range_holds table.now field value i }
 {
     let ranges = ranges_at(table, i);
-    byte_in_range(low_of(ranges, field), high_of(ranges, field), value)
+    in_range(range_of(ranges, field), value)
 }
 
 // The nodes that apply in a field alone at a value: a node whose range fails is skipped with all nodes under it.
+#[tactic(auto, using(encoding::proofs::Places::header_held, ruling::proofs::Steps::held))]
 pub fn members(table: &[u8], field: usize, value: u8) -> Set
     requires well_formed { WellFormed table.now }
     requires field_lt_fields { field < fields }
@@ -55,6 +56,7 @@ pub fn members(table: &[u8], field: usize, value: u8) -> Set
 }
 
 // The sets of one field, for each of its values: each value is a run of its own.
+#[tactic(auto, using(encoding::proofs::Places::header_held))]
 fn fill_values(table: &[u8], field: usize, row: &mut [Run; VALUES])
     requires well_formed { WellFormed table.now }
     requires field_lt_fields { field < fields }
@@ -87,6 +89,7 @@ fn mark_runs(row: &mut [Run; VALUES], most: usize)
 }
 
 // The sets of one field, and its runs.
+#[tactic(auto, using(encoding::proofs::Places::header_held))]
 fn fill_field(table: &[u8], field: usize, row: &mut [Run; VALUES])
     requires well_formed { WellFormed table.now }
     requires field_lt_fields { field < fields }

@@ -16,6 +16,7 @@ use Rattle.encoding.proofs.Places.{header_held}
 use Rattle.encoding.proofs.Maxima.{maxima_length, maxima_each}
 use Rattle.targets.specs.Closed.{Closed}
 use Rattle.applying.specs.Members.{member, ruling_from}
+use Rattle.applying.specs.declared.Run.{Run}
 use Rattle.applying.specs.Filled.{set_at, run_end, Filled}
 use Rattle.applying.proofs.MembersAreClosed.{member_closed, meet_closed, has_closed}
 use Rattle.diagram.specs.Walk.{Entries, Entered, given, walk}
@@ -23,6 +24,8 @@ use Rattle.diagram.proofs.DiagramGoesByRulingsWithin.{Alike}
 use Rattle.entering.specs.Walking.{Walks}
 use Rattle.entering.proofs.WalkedBefore.{walks_as}
 use Rattle.entering.proofs.Levels.{Level, walk_level, under_value}
+use Rattle.std.specs.Prelude.{Option, Some}
+use Rattle.entering.specs.declared.finding.Step.{Step}
 use Rattle.building.specs.Walked.{walk_by, Near}
 use Rattle.building.proofs.Remembered.{walked_near}
 
@@ -62,7 +65,7 @@ pub record ValueRun (t : List ℕ) (nodes : Set) (field v until : ℕ) (here : S
   pub alike : (u : ℕ) → v ≤ u → u ≤ until → (u ≤ maximum t field) × ((i : ℕ) → member t field u i ≡ member t field v i)
 
 -- by what is filled in for the field
-pub value_run : {t : List ℕ} (sets : List (List (List ℕ))) (field : ℕ) {v until : ℕ} {nodes : Set} (own : Set) {here : Set} → Filled t sets → field < fields →
+pub value_run : {t : List ℕ} (sets : List (List Run)) (field : ℕ) {v until : ℕ} {nodes : Set} (own : Set) {here : Set} → Filled t sets → field < fields →
     v ≤ maximum t field → own ≡ set_at (get_or sets field []) v → Has here (λ i. has nodes i && has own i) → until ≡ run_end (get_or sets field []) v → v ≤ until →
     ValueRun t nodes field v until here
 value_run sets field {v} {nodes} own full l more is meets ends far =
@@ -94,14 +97,14 @@ module _ {t : List ℕ} {nodes : Set} {field v until : ℕ} {here : Set} (r : Va
   walk_value : (xs : Entries) → walk_by t (field + 1) (has here) xs ≡ under_value (level_by t field (has nodes)) v xs
   walk_value xs = ap (λ f. walk_by t f (has here) xs) (add-one field) ∙ ap (λ c. walk_by t (suc field) c xs) (λ k i. r.left i k)
 
-  pub walks_value : {Given Right : Entries → Type 0} {n : ℕ} {d index : List ℕ} {full : Bool} {end place : ℕ} →
-      Walks (walk_by t (field + 1) (has here)) Given Right n d index full end place →
-      Walks (under_value (level_by t field (has nodes)) v) Given Right n d index full end place
+  pub walks_value : {Given Right : Entries → Type 0} {n : ℕ} {d index : List ℕ} {step : Option Step} →
+      Walks (walk_by t (field + 1) (has here)) Given Right n d index step →
+      Walks (under_value (level_by t field (has nodes)) v) Given Right n d index step
   walks_value w = walks_as w walk_value
 
   -- the child of a run is the neighbour of the next value
   pub value_near : (place : ℕ) (xs : Entries) → place ≡ (under_value (level_by t field (has nodes)) v xs).place →
-      Near t (field + 1) (record { nodes = here; place = place }) (under_value (level_by t field (has nodes)) v xs).entries
+      Near t (field + 1) (Some (record { nodes = here; place = place })) (under_value (level_by t field (has nodes)) v xs).entries
   value_near place xs =
-      subst (λ (x : Entered). place ≡ x.place → Near t (field + 1) (record { nodes = here; place = place }) x.entries) (walk_value xs)
+      subst (λ (x : Entered). place ≡ x.place → Near t (field + 1) (Some (record { nodes = here; place = place })) x.entries) (walk_value xs)
       (walked_near t (field + 1) here place xs)

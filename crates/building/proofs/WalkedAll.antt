@@ -1,6 +1,6 @@
 -- From the walk of all fields in the lent diagram to what building answers and leaves there: one law for each way through the code.
 use mathlib.Core.Path.{◌≡◌, refl, sym, ap, ◌∙◌, subst}
-use mathlib.Core.Bool.{Bool, true, false}
+use mathlib.Core.Bool.{true}
 use mathlib.Core.Logic.{inl, inr, ⊎_elim}
 use mathlib.Core.List.{List, [], ◌∷◌, ◌++◌}
 use Prim.Native.Nat.{ℕ, ◌+◌, ◌≤◌, ◌<◌, min}
@@ -21,6 +21,7 @@ use Rattle.table.specs.WellFormed.{WellFormed}
 use Rattle.encoding.proofs.Maxima.{maxima_length}
 use Rattle.ruling.specs.Ruling.{groups}
 use Rattle.applying.specs.Members.{ruling_from}
+use Rattle.applying.specs.declared.Run.{Run}
 use Rattle.applying.specs.Filled.{SetRows}
 use Rattle.applying.proofs.NodesApplyByFields.{ruling_is}
 use Rattle.diagram.specs.Layout.{header, most_places}
@@ -29,7 +30,9 @@ use Rattle.diagram.proofs.DiagramGoesByRulingsWithin.{walk_goes_by_rulings_withi
 use Rattle.diagram.proofs.WithinAsWalked.{within_length}
 use Rattle.entering.specs.Index.{Indexed}
 use Rattle.entering.specs.Laid.{NoRoom}
-use Rattle.entering.specs.Walking.{Held, Leaving, Walks}
+use Rattle.std.specs.Prelude.{Option, Some, None}
+use Rattle.entering.specs.declared.finding.Step.{Step}
+use Rattle.entering.specs.Walking.{Held, Walks}
 use Rattle.entering.proofs.LaidOut.{none_laid}
 use Rattle.entering.proofs.WalkedBefore.{walks_from, walks_as, walks_new}
 use Rattle.building.specs.Built.{diagram_of}
@@ -39,11 +42,11 @@ use Rattle.building.proofs.BuildAnswers.{TooLarge, Settled, too_large_lem, fits}
 use Rattle.building.proofs.Written.{head_of, over_zeros}
 
 -- rows that are as long as they must be, one for each field, before any set is in them
-pub no_sets : (row : List (List ℕ)) → length row ≡ 256 → SetRows (replicate fields row)
+pub no_sets : (row : List Run) → length row ≡ 256 → SetRows (replicate fields row)
 no_sets row e =
     record {
-      number = length-replicate {A = List (List ℕ)} fields row;
-      long = λ f l. ap length (get_or-replicate {A = List (List ℕ)} fields f row [] l) ∙ e;
+      number = length-replicate {A = List Run} fields row;
+      long = λ f l. ap length (get_or-replicate {A = List Run} fields f row [] l) ∙ e;
     }
 
 -- Before the first field every node is possible.
@@ -57,19 +60,19 @@ module _ (t : List ℕ) (w : WellFormed t) (nodes : Set) (all : Has nodes (λ i.
       walk_goes_by_rulings_within fields (maxima t) (ruling_from t 0 (has nodes)) (groups t) es
       (λ q v. ruling_is t q (has nodes) (within_length (maxima t) q v ∙ maxima_length t) all_in w)
 
-  -- all fields were walked, in a cleared diagram of n places, from slots that hold no place
-  pub all_walked : (n slots : ℕ) (d index : List ℕ) {d' index' : List ℕ} {Right : Entries → Type 0} {full : Bool} {end place : ℕ} → d ≡ zeros n →
+  -- all fields were walked, in a cleared diagram of n places, from empty slots
+  pub all_walked : (n slots : ℕ) (d index : List ℕ) {d' index' : List ℕ} {Right : Entries → Type 0} {step : Option Step} → d ≡ zeros n →
       header fields ≤ n → Indexed [] index →
-      Walks (walk_by t 0 (has nodes)) (Held (Remembers t (replicate slots (zeros 4))) d index (header fields)) Right n d' index' full end place →
-      AllWalked t n d' full end place
+      Walks (walk_by t 0 (has nodes)) (Held (Remembers t (replicate slots None)) d index (header fields)) Right n d' index' step →
+      AllWalked t n d' step
   all_walked n slots d index {index'} zeroed l x walked = (
     index',
     walks_new
         (walks_from (walks_as walked walk_is)
         (λ es e.
-        subst (Held (Remembers t (replicate slots (zeros 4))) d index (header fields)) (sym e)
+        subst (Held (Remembers t (replicate slots None)) d index (header fields)) (sym e)
         (none_laid d index n zeroed l x, none_remembered t [] slots)))
-        (λ es at r. tt),
+        (λ es s is at r. tt),
   )
 
 module _ (t : List ℕ) where
@@ -101,32 +104,30 @@ module _ (t : List ℕ) (n : ℕ) (r : Accepted t) where
   too_short a d l e z = too_large_lem t n r a d (inr (omega (arith, diagram_length t))) e z
 
   -- all fields were walked, in a cleared diagram
-  module _ (d d' : List ℕ) (full : Bool) (end place : ℕ) (zeroed : d ≡ zeros n) (w : AllWalked t (length d) d' full end place) where
+  module _ {d : List ℕ} (zeroed : d ≡ zeros n) where
     places : length d ≡ n
     places = ap length zeroed ∙ length-replicate {A = ℕ} n 0
 
     -- there was no room
-    pub walk_full : (a : Answer) (e : List ℕ) → full ≡ true → a ≡ refused 11 0 → e ≡ zeros n → Settled t n a e
-    walk_full a e f ea z =
-        let none : NoRoom (walk_all t []) (length d) = subst (λ b. Leaving (λ es. Unit {0}) (walk_all t []) (length d) d' w.0 b end place) f (w.1.outcome [] refl) in
+    pub walk_full : {d' : List ℕ} → AllWalked t (length d) d' None → (a : Answer) (e : List ℕ) → a ≡ refused 11 0 → e ≡ zeros n → Settled t n a e
+    walk_full w a e ea z =
+        let none : NoRoom (walk_all t []) (length d) = w.1.outcome [] refl in
         too_large_lem t n r a e (no_room t n (omega (arith, diagram_length t, places))) ea z
 
     -- the header is written before the entries
-    pub walk_done : (a : Answer) (e : List ℕ) → full ≡ false → length d' ≡ length d → a ≡ counted end → e ≡ sets d' 0 (head_of end place t) →
-        Settled t n a e
-    walk_done a e f same ea ee =
-        let left : Leaving (λ es. Unit {0}) (walk_all t []) (length d) d' w.0 false end place =
-        subst (λ b. Leaving (λ es. Unit {0}) (walk_all t []) (length d) d' w.0 b end place) f (w.1.outcome [] refl) in
-        let s = left.0 in
+    pub walk_done : {d' : List ℕ} {root : Step} → AllWalked t (length d) d' (Some root) → (a : Answer) (e : List ℕ) → length d' ≡ length d → a ≡ counted root.end →
+        e ≡ sets d' 0 (head_of root.end root.place t) → Settled t n a e
+    walk_done {d'} {root} w a e same ea ee =
+        let s = (w.1.outcome [] refl).0 in
         let ns = joined (walk_all t []).entries in
-        let head = head_of end place t in
+        let head = head_of root.end root.place t in
         let lh : header fields ≡ length head = omega (arith, maxima_length t) in
-        let used : end ≡ length (diagram_of t) = omega (arith, s.laid.ends, diagram_length t) in
+        let used : root.end ≡ length (diagram_of t) = omega (arith, s.laid.ends, diagram_length t) in
         let whole : head ++ ns ≡ diagram_of t =
-        ap (λ k. head_of k place t ++ ns) (sym s.laid.ends)
+        ap (λ k. head_of k root.place t ++ ns) (sym s.laid.ends)
         ∙ ap (λ k. head_of (header fields + length ns) k t ++ ns) s.at
         ∙ sym (diagram_is t) in
-        fits t n r a e end (omega (arith, w.1.room.2), omega (arith, w.1.room.1, places)) used ea
+        fits t n r a e root.end (omega (arith, w.1.within.0.2), omega (arith, w.1.within.0.1, places)) used ea
         (ee
         ∙ ap (λ l. sets l 0 head) (s.laid.is ∙ ap (padded (zeros (header fields) ++ ns)) (same ∙ places))
         ∙ ap (λ k. sets (padded (zeros k ++ ns) n) 0 head) lh

@@ -30,7 +30,11 @@ pub(crate) fn recall_near(near: Option<Known>, nodes: Set) -> Option<usize>
     ensures { IfSome result (λ place. near ≡ Some (record { nodes = nodes; place = place })) }
 {
     let known = near?;
-    (known.nodes == nodes).then_some(known.place)
+    if known.nodes == nodes {
+        Some(known.place)
+    } else {
+        None
+    }
 }
 
 // The slot of a set and a field. Any hash is correct: slots store their key.
@@ -56,8 +60,11 @@ pub(crate) fn recall(
 {
     let held = seen[slot]?;
     let place = usize::from(held.place);
-    let same = held.nodes == nodes && usize::from(held.field) == field;
-    (same && place < MOST_PLACES).then_some(place)
+    if held.nodes == nodes && usize::from(held.field) == field && place < MOST_PLACES {
+        Some(place)
+    } else {
+        None
+    }
 }
 
 // Remembers the place of what was walked with a set from a field on.

@@ -17,7 +17,7 @@ ghost use Rattle.building.specs.Walked.{walk_by, Remembers, RemembersNear, AllWa
 
 use crate::remembering::{Known, SEEN, Seen, recall, recall_near, remember, slot_of};
 use answer::FIELDS;
-use applying::{VALUES, fill, run_end, set_at};
+use applying::{Run, VALUES, fill, run_end, set_at};
 use deciding::rule_set;
 use diagram::HEADER;
 use encoding::layout::maximum_at;
@@ -49,7 +49,7 @@ fn enter_ruling(
 #[cycle(walk_walk_once)]
 fn walk_once(
     table: &[u8],
-    sets: &[[[u64; 3]; VALUES]; FIELDS],
+    sets: &[[Run; VALUES]; FIELDS],
     field: usize,
     possible: Set,
     near: Option<Known>,
@@ -83,7 +83,7 @@ fn walk_once(
 #[cycle(walk_walk_once)]
 fn walk(
     table: &[u8],
-    sets: &[[[u64; 3]; VALUES]; FIELDS],
+    sets: &[[Run; VALUES]; FIELDS],
     field: usize,
     possible: Set,
     diagram: &mut [u16],
@@ -139,7 +139,11 @@ pub(crate) fn walk_all(table: &[u8], diagram: &mut [u16]) -> Option<Step>
     requires diagram_value { diagram.old ≡ zeros (length diagram.old) }
     ensures { AllWalked table.now (length diagram.old) diagram.new result }
 {
-    let mut sets = [[[0u64; 3]; VALUES]; FIELDS];
+    let run = Run {
+        set: Set::empty(),
+        last: 0,
+    };
+    let mut sets = [[run; VALUES]; FIELDS];
     fill(table, &mut sets);
     let mut index = [0u16; SLOTS];
     let mut seen: [Option<Seen>; SEEN] = [None; SEEN];

@@ -6,7 +6,7 @@ ghost use Rattle.combining.specs.Ways.{as_child, NeverIndeterminate};
 ghost use Rattle.combining.specs.Running.{Started, Takes, Taken};
 ghost use Rattle.combining.specs.Table.{only_one_row, first_row, row_of, Combines};
 
-// The four decisions, by number.
+// The four decisions, by number. They are constants, as the requirements word them, and no enum: a decision is a byte in a diagram and in an answer.
 #[derive(Clone, Copy)]
 pub struct Decision {
     pub value: u8,
@@ -26,7 +26,8 @@ impl Decision {
     pub const INDETERMINATE: u8 = 3;
 }
 
-// The kinds of nodes, by number: four of groups, two of rules.
+// The kinds of nodes, by number: four of groups, two of rules. They are constants, so that the kind byte of a table is matched by ranges as the
+// requirements ask.
 #[derive(Clone, Copy)]
 pub struct Kind {
     pub value: u8,
@@ -109,10 +110,11 @@ const COMBINING: Ways = [
 fn only_one_row(counted: bool, counts: bool) -> usize
     ensures { (result ≡ only_one_row counted counts) × (result < 24) }
 {
-    if counted {
-        if counts { 23 } else { 19 }
-    } else {
-        if counts { 15 } else { 4 }
+    match (counted, counts) {
+        (false, false) => 4,
+        (false, true) => 15,
+        (true, false) => 19,
+        (true, true) => 23,
     }
 }
 
@@ -135,10 +137,11 @@ fn row_of(kind: u8, running: u8, counted: bool, counts: bool) -> usize
     requires never_indeterminate { NeverIndeterminate kind running }
     ensures { (result ≡ row_of kind running counted counts) × (result < 27) }
 {
-    first_row(kind, counted, counts) + running as usize
+    first_row(kind, counted, counts) + usize::from(running)
 }
 
-// A group's decision so far (document 01's running decision) and whether a child has counted, with the group's kind.
+// A group's decision so far (document 01's running decision) and whether a child has counted, with the group's kind. The two are no Option, since
+// `Takes` allows a child that gives a decision and does not count.
 #[derive(Clone, Copy)]
 pub struct Running {
     pub kind: u8,
@@ -174,7 +177,7 @@ impl Running {
         let row = row_of(self.kind, self.decision, self.counted, counts);
         Self {
             kind: self.kind,
-            decision: ways[row][decision as usize],
+            decision: ways[row][usize::from(decision)],
             counted: self.counted | counts,
         }
     }

@@ -24,6 +24,7 @@ fn next_below(applying: Set, i: usize, end: usize) -> Option<usize>
 }
 
 // The decision of node i, which is in the set.
+#[tactic(auto, using(ruling::proofs::Steps::held))]
 fn decide(table: &[u8], ways: &Ways, applying: Set, i: usize) -> u8
     requires well_formed { WellFormed table.now × Combines ways.now }
     requires closed { Closed table.now (has applying) }
@@ -63,6 +64,7 @@ fn decide_root(table: &[u8], applying: Set) -> u8
 }
 
 // How many rules of the set there are. Their cards are stored in table order, as far as the list reaches.
+#[tactic(auto, using(encoding::proofs::Places::header_held, ruling::proofs::Steps::held))]
 fn gather(table: &[u8], applying: Set, list: &mut [u16]) -> usize
     requires { WellFormed table.now }
     ensures value { result ≡ length (cards (has applying) table.now) }

@@ -1,4 +1,4 @@
--- What is remembered of earlier walks stays right as entries are added, and a walk that is remembered adds nothing.
+-- What is remembered of earlier walks stays right as entries are added, and what more is known of a walk.
 use mathlib.Core.Path.{◌≡◌, refl, sym, ap, ◌∙◌, subst}
 use mathlib.Core.Logic.{⊎_elim}
 use mathlib.Core.List.{List}
@@ -17,8 +17,7 @@ use Rattle.diagram.proofs.EntryPlaces.{Begins, begins_itself}
 use Rattle.diagram.proofs.WalkingAgainAddsNothing.{walking_again_adds_nothing}
 use Rattle.std.specs.Prelude.{Option, Some, None}
 use Rattle.entering.specs.declared.finding.Step.{Step}
-use Rattle.entering.specs.Laid.{Within, Stood}
-use Rattle.entering.specs.Walking.{Stays, Remembered, Held, Leaving, Walks}
+use Rattle.entering.specs.Walking.{Stays, Remembered, Leaving, Walks}
 
 -- what is right of some entries stays so as more follow
 abbrev pub Grows : (Entries → Type 0) → Type 0
@@ -66,40 +65,29 @@ module _ {A : Type 0} (none : A) (Right : ℕ → A → Entries → Type 0) wher
       (λ e. subst (λ y. Right s y es) (sym (get_or-set_other slots slot s x none (eqb-false s slot e))) (r s))
       (either (eqb s slot))
 
--- The ways through a walk that is done once.
-module _ {n : ℕ} {d index : List ℕ} where
-  -- a walk that is remembered: nothing was written
-  pub walks_known : {Right Right' : Entries → Type 0} (ms : List ℕ) (f : List ℕ → Ruling) (s : Step) → Within n s →
-      ((es : Entries) → Right es → Stays ms f es s.place × Right' es) → Walks (walk fields ms f) (Held Right d index s.end) Right' n d index (Some s)
-  walks_known {Right'} ms f s within known =
+-- What more is known of a walk.
+module _ {n : ℕ} {d index : List ℕ} {walked : Entries → Entered} {Given Right : Entries → Type 0} {step : Option Step}
+    (w : Walks walked Given Right n d index step) where
+  -- a walk from entries of which more was given
+  pub walks_from : {Given' : Entries → Type 0} → ((es : Entries) → Given' es → Given es) → Walks walked Given' Right n d index step
+  walks_from given = record { within = w.within; outcome = λ es g. w.outcome es (given es g) }
+
+  -- a walk that gives the same from every list of entries
+  pub walks_as : {walked' : Entries → Entered} → ((es : Entries) → walked es ≡ walked' es) → Walks walked' Given Right n d index step
+  walks_as same =
       record {
-        within = within;
-        outcome = λ es h.
-            let k = known es h.1 in
-            subst (λ (x : Entered). Stood x d index s.end s.place × Right' x.entries) (sym k.0) (record { laid = h.0; at = refl }, k.1);
+        within = w.within;
+        outcome = λ es g. subst (λ x. Leaving Right x n d index step) (same es) (w.outcome es g);
       }
 
-  module _ {walked : Entries → Entered} {Given Right : Entries → Type 0} {step : Option Step} (w : Walks walked Given Right n d index step) where
-    -- a walk from entries of which more was given
-    pub walks_from : {Given' : Entries → Type 0} → ((es : Entries) → Given' es → Given es) → Walks walked Given' Right n d index step
-    walks_from given = record { within = w.within; outcome = λ es g. w.outcome es (given es g) }
-
-    -- a walk that gives the same from every list of entries
-    pub walks_as : {walked' : Entries → Entered} → ((es : Entries) → walked es ≡ walked' es) → Walks walked' Given Right n d index step
-    walks_as same =
-        record {
-          within = w.within;
-          outcome = λ es g. subst (λ x. Leaving Right x n d index step) (same es) (w.outcome es g);
-        }
-
-    -- a walk of which more is remembered once it is done
-    pub walks_new : {Right' : Entries → Type 0} →
-        ((es : Entries) (s : Step) → step ≡ Some s → s.place ≡ (walked es).place → Right (walked es).entries → Right' (walked es).entries) →
-        Walks walked Given Right' n d index step
-    walks_new {Right'} more =
-        record { within = w.within; outcome = λ es g. by (walked es) step (more es) (w.outcome es g) }
-      where
-        by : (x : Entered) (r : Option Step) → ((s : Step) → r ≡ Some s → s.place ≡ x.place → Right x.entries → Right' x.entries) →
-            Leaving Right x n d index r → Leaving Right' x n d index r
-        by x None m l = l
-        by x (Some s) m l = (l.0, m s refl l.0.at l.1)
+  -- a walk of which more is remembered once it is done
+  pub walks_new : {Right' : Entries → Type 0} →
+      ((es : Entries) (s : Step) → step ≡ Some s → s.place ≡ (walked es).place → Right (walked es).entries → Right' (walked es).entries) →
+      Walks walked Given Right' n d index step
+  walks_new {Right'} more =
+      record { within = w.within; outcome = λ es g. by (walked es) step (more es) (w.outcome es g) }
+    where
+      by : (x : Entered) (r : Option Step) → ((s : Step) → r ≡ Some s → s.place ≡ x.place → Right x.entries → Right' x.entries) →
+          Leaving Right x n d index r → Leaving Right' x n d index r
+      by x None m l = l
+      by x (Some s) m l = (l.0, m s refl l.0.at l.1)

@@ -1,17 +1,17 @@
 -- Laws of a number's decimal digits: how they begin and end, and how many there are.
-use mathlib.Core.Path.{◌≡◌, refl, sym, ap, ◌∙◌, subst}
+use mathlib.Core.Path.{◌≡◌, refl, sym, ap, ◌∙◌}
 use mathlib.Core.Bool.{Bool, true, false, cond}
 use mathlib.Core.List.{List, [], ◌∷◌, ◌++◌}
 use Prim.Native.Nat.{ℕ, zero, suc, ◌+◌, ◌/◌, ◌%◌, ◌^◌, ◌≤◌, ◌<◌}
 use native.Mathlib.Omega.{arith}
-use native.Mathlib.Nat.{div-lt_self, div-lt_iff_lt-mul}
+use native.Mathlib.Nat.{div-lt_self, div-lt_iff_lt-mul, mod-eq_of_lt}
 use borrow.Author.Tests.{lt-ltb, le-ltb, ltb-true, ltb-false}
 use lib.Dec.{ltb}
 use lib.ListN.{length, length-append}
 use Rattle.listing.specs.Text.{decimal_up_to, decimal}
 use Rattle.listing.specs.declared.text.Text.{Text}
 use Rattle.listing.specs.Written.{HasRoom, Puts}
-use Rattle.listing.proofs.Writing.{room_first, puts_room, puts_as, puts_join}
+use Rattle.listing.proofs.Writing.{Partly, partly_none, partly_first, partly_more}
 
 -- one step of the digits, by whether the number is one digit
 step : (k n : ℕ) (b : Bool) → ltb n 10 ≡ b → decimal_up_to (suc k) n ≡ cond b ((48 + n) ∷ []) (decimal_up_to k (n / 10) ++ (48 + n % 10) ∷ [])
@@ -60,20 +60,15 @@ decimal_short (suc k) n h = by (ltb n 10) refl (decimal_short k (n / 10))
         )
 
 module _ (n : ℕ) where
-  -- a digit is written
-  pub digit_room : (t : Text) → n < 10 → HasRoom t (decimal n) → HasRoom t ((48 + n) ∷ [])
-  digit_room t h r = subst (HasRoom t) (decimal_digit n h) r
+  abbrev pub last_digit : List ℕ
+  last_digit = (48 + n % 10) ∷ []
 
-  pub digit_written : n < 10 → {t u : Text} → Puts t u ((48 + n) ∷ []) → Puts t u (decimal n)
-  digit_written h p = puts_as p (sym (decimal_digit n h))
+  -- of the digits of n, the last is left: of a number of one digit, and of any other once the digits of a tenth are written
+  pub digit_left : {t : Text} → n < 10 → Partly t (decimal n) t last_digit
+  digit_left h = partly_none (ap (λ (m : ℕ). (48 + m) ∷ []) (mod-eq_of_lt {n = n} {m = 10} h) ∙ sym (decimal_digit n h))
 
-  -- the digits of a tenth are written, and the last one
+  pub last_left : {t u : Text} → 10 ≤ n → Puts t u (decimal (n / 10)) → Partly t (decimal n) u last_digit
+  last_left h p = partly_more (partly_none refl) (decimal_more n h) p
+
   pub tenth_room : (t : Text) → 10 ≤ n → HasRoom t (decimal n) → HasRoom t (decimal (n / 10))
-  tenth_room t h r = room_first t.bytes.now t.end (decimal (n / 10)) ((48 + n % 10) ∷ []) (subst (HasRoom t) (decimal_more n h) r)
-
-  module _ (h : 10 ≤ n) {t u : Text} (p : Puts t u (decimal (n / 10))) where
-    pub last_room : HasRoom t (decimal n) → HasRoom u ((48 + n % 10) ∷ [])
-    last_room r = puts_room p ((48 + n % 10) ∷ []) (subst (HasRoom t) (decimal_more n h) r)
-
-    pub last_written : {v : Text} → Puts u v ((48 + n % 10) ∷ []) → Puts t v (decimal n)
-    last_written q = puts_as (puts_join p ((48 + n % 10) ∷ []) q) (sym (decimal_more n h))
+  tenth_room t h r = partly_first (partly_none {t = t} refl) (decimal (n / 10)) last_digit (decimal_more n h) r

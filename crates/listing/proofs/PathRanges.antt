@@ -18,10 +18,10 @@ use Rattle.listing.proofs.Lengths.{range_short}
 
 module _ (d q : List ℕ) (p f : ℕ) where
   -- the next range, and those after it
-  pub ranges_next : (v j low : ℕ) → f < length q → v ≡ value q f → j ≡ edge d p v → low ≡ first_at d p j →
-      ranges (path_from d p (drop f q)) ≡ range low (last_at d p j) ++ space ∷ ranges (path_from d (child_at d p j) (drop (f + 1) q))
+  pub ranges_next : (v j low high : ℕ) → f < length q → v ≡ value q f → j ≡ edge d p v → low ≡ first_at d p j → high ≡ last_at d p j →
+      ranges (path_from d p (drop f q)) ≡ range low high ++ space ∷ ranges (path_from d (child_at d p j) (drop (f + 1) q))
   unfolding ranges path_from
-  ranges_next v j low l e i k = rw (k, i, e) (ap (λ (r : List ℕ). ranges (path_from d p r)) (next_left q f l))
+  ranges_next v j low high l e i k m = rw (m, k, i, e) (ap (λ (r : List ℕ). ranges (path_from d p r)) (next_left q f l))
 
   pub ranges_end : length q ≤ f → ranges (path_from d p (drop f q)) ≡ []
   unfolding ranges path_from
@@ -42,7 +42,7 @@ ranges_short d s q w k (suc n) f p i e =
     let rest : length (ranges (path_from d c (drop (f + 1) q))) ≤ 8 * n = ranges_short d s q w k n (f + 1) c (omega arith) (child_here d s p f e l v m) in
     omega (
       arith,
-      ap length (ranges_next d q p f v j (first_at d p j) (omega arith) refl refl refl),
+      ap length (ranges_next d q p f v j (first_at d p j) (last_at d p j) (omega arith) refl refl refl refl),
       length-append (range (first_at d p j) (last_at d p j)) (space ∷ ranges (path_from d c (drop (f + 1) q))),
       range_short (first_at d p j) (last_at d p j) (omega (arith, s.maxima f l)) (omega (arith, s.maxima f l)),
     )

@@ -47,7 +47,7 @@ pub(crate) fn first_of(diagram: &[u16], place: usize, edge: usize) -> usize
         return 0;
     }
     let before = edge - 1;
-    diagram[place + 2 + 2 * before] as usize + 1
+    usize::from(diagram[place + 2 + 2 * before]) + 1
 }
 
 // Writes the ranges of the path that the values take, each with a space after it. Returns the place of the terminal.
@@ -58,13 +58,13 @@ fn put_path(diagram: &[u16], values: [u16; FIELDS], text: &mut Text) -> usize
     ensures landed { Landed diagram.now values result }
     ensures puts { Puts text.old text.new (ranges (path_of diagram.now values)) }
 {
-    let mut place = diagram[1] as usize;
+    let mut place = usize::from(diagram[1]);
     for value in values {
         let edge = edge_of(diagram, place, value);
         let low = first_of(diagram, place, edge);
-        text.put_range(low, diagram[place + 2 + 2 * edge] as usize);
+        text.put_range(low, usize::from(diagram[place + 2 + 2 * edge]));
         text.put(b' ');
-        place = diagram[place + 3 + 2 * edge] as usize;
+        place = usize::from(diagram[place + 3 + 2 * edge]);
     }
     place
 }
@@ -80,7 +80,7 @@ pub fn line(diagram: &[u16], values: [u16; FIELDS], text: &mut Text)
     let place = put_path(diagram, values, text);
     text.put_decision(diagram[place + 1] as u8);
     let from = place + 3;
-    let to = from + diagram[place + 2] as usize;
+    let to = from + usize::from(diagram[place + 2]);
     text.put_items(&diagram[from..to]);
     text.end_line();
 }

@@ -26,12 +26,11 @@ pub fn fill(diagram: &[u16], values: [u16; FIELDS], text: &mut Text) -> Option<[
     let mut request = values;
     loop {
         line(diagram, request, text);
-        let next = next(diagram, request);
-        let Some(following) = next else {
-            return next;
+        let Some(following) = next(diagram, request) else {
+            return None;
         };
         if text.bytes.len() - text.end < LINE {
-            return next;
+            return Some(following);
         }
         request = following;
     }

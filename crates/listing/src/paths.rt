@@ -26,12 +26,12 @@ fn next_from(
         return None;
     }
     let edge = edge_of(diagram, place, values[field]);
-    let child = diagram[place + 3 + 2 * edge] as usize;
+    let child = usize::from(diagram[place + 3 + 2 * edge]);
     let below = next_from(diagram, child, values, field + 1);
     if below.is_some() {
         return below;
     }
-    if edge + 1 < diagram[place + 1] as usize {
+    if edge + 1 < usize::from(diagram[place + 1]) {
         let mut next = values;
         next[field] = first_of(diagram, place, edge + 1) as u16;
         next[field + 1..].fill(0);
@@ -47,5 +47,5 @@ pub fn next(diagram: &[u16], values: [u16; FIELDS]) -> Option<[u16; FIELDS]>
     ensures value { after result ≡ next_of diagram.now values }
     ensures later { IfSome result (λ next. Later diagram.now values next) }
 {
-    next_from(diagram, diagram[1] as usize, values, 0)
+    next_from(diagram, usize::from(diagram[1]), values, 0)
 }

@@ -58,17 +58,15 @@ impl<'a> Text<'a> {
         }
     }
 
-    // Writes a number's decimal digits: those of a tenth of it, then the last.
+    // Writes a number's decimal digits: those of a tenth of it, if it has more than one, then the last.
     pub(crate) fn put_decimal(&mut self, number: usize)
         requires { HasRoom self.old (decimal number) }
         ensures { Puts self.old self.new (decimal number) }
     {
-        if number < 10 {
-            self.put(b'0' + number as u8);
-        } else {
+        if 10 <= number {
             self.put_decimal(number / 10);
-            self.put(b'0' + (number % 10) as u8);
         }
+        self.put(b'0' + (number % 10) as u8);
     }
 
     // Writes a decision's word.

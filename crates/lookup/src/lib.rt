@@ -50,8 +50,8 @@ fn descend(diagram: SoundDiagram, values: [u16; FIELDS]) -> usize
     place
 }
 
-// Rules on a request by a sound diagram, with a list that was cleared: refusals 9 and 10 in order, or the decision and the cards.
-pub fn look_up_sound(
+// Rules on a request by a sound diagram, with a list that was cleared: refusal 9 or 10, or the decision and the cards.
+fn look_up_checked(
     diagram: SoundDiagram,
     request: Request,
     cards: &mut [u16],
@@ -82,19 +82,13 @@ pub fn look_up_sound(
     Ok(Answer::ruled(numbers[place + 1] as u8, count, 0))
 }
 
-// Rules on a request by a diagram, with a list that was cleared: refusal 12 before those.
-fn look_up_checked(diagram: &[u16], request: Request, cards: &mut [u16]) -> Result<Answer, Refused>
+// Rules on a request by a sound diagram, with a list that was cleared: refusals 9 and 10 in order, or the decision and the cards.
+pub fn look_up_sound(diagram: SoundDiagram, request: Request, cards: &mut [u16]) -> Answer
     requires { cards.old ≡ zeros (length cards.old) }
-    ensures value { answer_by (λ answer. answer) result ≡ looked_up diagram.now request.values (length cards.old) }
-    ensures cards_after { cards.new ≡ looked_up_list diagram.now request.values (length cards.old) }
+    ensures value { result ≡ sound_looked_up diagram.entry.numbers.now request.values (length cards.old) }
+    ensures cards_after { cards.new ≡ sound_looked_up_list diagram.entry.numbers.now request.values (length cards.old) }
 {
-    let Some(sound) = SoundDiagram::check(diagram) else {
-        return Err(Refused {
-            refusal: Refusal::Diagram,
-            place: 0,
-        });
-    };
-    look_up_sound(sound, request, cards)
+    look_up_checked(diagram, request, cards).unwrap_or_else(Answer::from)
 }
 
 // Rules on a request by a diagram: the decision, and in the list the terminal's cards, with zeros after them.
@@ -103,8 +97,11 @@ pub fn look_up(diagram: &[u16], request: Request, cards: &mut [u16]) -> Answer
     ensures cards_after { cards.new ≡ looked_up_list diagram.now request.values (length cards.old) }
 {
     clear(cards);
-    match look_up_checked(diagram, request, cards) {
-        Ok(answer) => answer,
-        Err(refused) => Answer::from(refused),
-    }
+    let Some(sound) = SoundDiagram::check(diagram) else {
+        return Answer::from(Refused {
+            refusal: Refusal::Diagram,
+            place: 0,
+        });
+    };
+    look_up_sound(sound, request, cards)
 }

@@ -1,16 +1,19 @@
 -- What ruling by groups answers, and what it leaves in the lent list, for every table, set of subjects, values and list: refusals 1 to 8, 13, 9 and
 -- 10, in order.
 -- Assumes nothing: these are definitions.
-use Rattle.std.specs.Prelude.{cond, List, ◌∷◌, ◌++◌, ℕ, eqb}
+use Rattle.std.specs.Prelude.{cond, List, ◌∷◌, ◌++◌, ℕ, eqb, Result}
 use Rattle.answer.specs.Answers.{refused, ruled}
+use Rattle.answer.specs.Numbers.{answer_by}
 use Rattle.answer.specs.Refusals.{Refusal, row}
 use Rattle.answer.specs.Rulings.{Ruling, request_refusals, ruled_or, listed_or}
 use Rattle.answer.specs.declared.Answer.{Answer}
+use Rattle.answer.specs.declared.refusal.Refused.{Refused}
 use Rattle.encoding.specs.Layout.{maximum}
 use Rattle.table.specs.Reading.{table_refusals}
 use Rattle.targets.specs.Targets.{applies}
 use Rattle.targets.specs.Subjects.{applies_to_some, size, subjects_fault}
 use Rattle.ruling.specs.Meaning.{meaning}
+use Rattle.ruling.specs.declared.groups.Ruled.{Ruled}
 
 -- "The groups give a question the decision under 'How a table rules' [..], the cards of all matching rules in table order": a question of one
 -- figure
@@ -41,6 +44,10 @@ ruled_after refusals t s others = ruled_or refusals (groups_together t s others)
 -- what a list of n places then holds: "the cards of all matching rules in table order, then zeros to the list's end", zeros in a refusal
 abbrev pub listed_after : List Refusal → List ℕ → ℕ → List ℕ → ℕ → List ℕ
 listed_after refusals t s others n = listed_or refusals (groups_together t s others).cards n
+
+-- the answer that a ruling comes to, or its refusal, before the subjects are counted (for the contracts inside the crate)
+abbrev pub ruled_answer : Result Ruled Refused → Answer
+ruled_answer = answer_by (λ r. ruled r.decision r.count 0)
 
 -- an answer with "how many figures the party has", 0 in a refusal (for the contracts inside the crate)
 abbrev pub for_subjects : Answer → ℕ → Answer

@@ -5,52 +5,50 @@ ghost use Rattle.answer.specs.Fields.{fields};
 ghost use Rattle.answer.specs.Rulings.{ruled_or};
 ghost use Rattle.table.specs.WellFormed.{WellFormed};
 ghost use Rattle.targets.specs.Subjects.{size};
-ghost use Rattle.ruling.specs.Ruling.{groups_together, asked_refusals, for_subjects, listed_after, ruling, ruled_list};
+ghost use Rattle.ruling.specs.Ruling.{groups_together, asked_refusals, ruled_answer, for_subjects, listed_after, ruling, ruled_list};
 
-use crate::groups::rule_read;
-use answer::{Answer, FIELDS, JointRequest, OTHERS, clear, field_fault};
+use crate::groups::{Ruled, rule_read};
+use answer::{Answer, JointRequest, OTHERS, Refusal, Refused, clear, field_fault};
 use encoding::layout::maxima_at;
 use sets::ones_at;
 use table::read;
 use targets::subjects_fault;
 
 // Rules on several subjects together by an accepted table, where the other fields have these values, with a list that was cleared: refusals 13,
-// 9 and 10 in order, or the decision and the cards. How many subjects they are is left out.
+// 9 and 10 in order, or the decision and the number of cards.
 pub fn rule_accepted(
     table: &[u8],
     subjects: u64,
     others: &[u16; OTHERS],
     cards: &mut [u16],
-) -> Answer
+) -> Result<Ruled, Refused>
     requires well_formed { WellFormed table.now × (length others.now ≡ fields - 1) }
     requires cards_value { cards.old ≡ zeros (length cards.old) }
-    ensures value { result ≡ ruled_or (asked_refusals table.now subjects others.now (length cards.old)) (groups_together table.now subjects others.now) 0 }
+    ensures value { ruled_answer result ≡ ruled_or (asked_refusals table.now subjects others.now (length cards.old)) (groups_together table.now subjects others.now) 0 }
     ensures cards_after { cards.new ≡ listed_after (asked_refusals table.now subjects others.now (length cards.old)) table.now subjects others.now (length cards.old) }
 {
     let maxima = maxima_at(table);
     if subjects_fault(subjects, maxima[0]) {
-        return Answer::refused(13, 0);
+        return Err(Refusal::Subjects.at(0));
     }
-    let field = field_fault(&maxima, others, 1);
-    if field < FIELDS {
-        return Answer::refused(9, field);
+    if let Some(field) = field_fault(&maxima, others, 1) {
+        return Err(Refusal::Value.at(field));
     }
     let root = rule_read(table, subjects, others, cards);
     if cards.len() < root.count {
         clear(cards);
-        return Answer::refused(10, 0);
+        return Err(Refusal::ListTooShort.at(0));
     }
-    Answer::ruled(root.decision, root.count, 0)
+    Ok(root)
 }
 
-// The answer with the number of subjects. It is made part by part, since a copy of the whole would wait until all parts are in memory.
-pub fn for_subjects(answer: Answer, subjects: u64) -> Answer
-    ensures { result ≡ for_subjects answer (size subjects) }
+// The answer of a ruling on several subjects, with how many they are, or of its refusal.
+pub fn for_subjects(outcome: Result<Ruled, Refused>, subjects: u64) -> Answer
+    ensures { result ≡ for_subjects (ruled_answer outcome) (size subjects) }
 {
-    if answer.number != 0 {
-        Answer::refused(answer.number, answer.place)
-    } else {
-        Answer::ruled(answer.decision, answer.count, ones_at(subjects))
+    match outcome {
+        Ok(root) => Answer::ruled(root.decision, root.count, ones_at(subjects)),
+        Err(refused) => Answer::from(refused),
     }
 }
 
@@ -66,6 +64,6 @@ pub fn rule(table: &[u8], request: JointRequest, cards: &mut [u16]) -> Answer
         return reading;
     }
     let others = request.others;
-    let answer = rule_accepted(table, request.subjects, &others, cards);
-    for_subjects(answer, request.subjects)
+    let outcome = rule_accepted(table, request.subjects, &others, cards);
+    for_subjects(outcome, request.subjects)
 }

@@ -79,7 +79,7 @@ fn entry_sound(diagram: &[u16], place: usize, marks: &[u8]) -> bool
     }
 }
 
-// Whether sound entries tile the used places and the root place starts one of level 1. One pass: where an entry starts, a mark of one more than its level is left, so that no entry is searched for again.
+// Whether sound entries tile the used places and the root place starts one of level 1. One pass: where an entry starts, a mark of one more than its level is left, so that no entry is searched for again. A mark is a byte, 0 for none: an `Option` of one would double what the marks take of the stack.
 fn entries_sound(diagram: &[u16], marks: &mut [u8]) -> bool
     requires opened { Opened diagram.now }
     requires unmarked { Unmarked diagram.now marks.old }

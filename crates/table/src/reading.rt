@@ -14,8 +14,8 @@ ghost use Rattle.table.specs.Reading.{header_refusals, refusals_after_kind, node
 use answer::{Answer, FIELDS, Refusal, Refused};
 use combining::Kind;
 use encoding::layout::{
-    LEVELS, NODES, VERSION, card_at, count_at, header_size, kind_at, maximum_at, range_at, span_at,
-    start_of, word_at,
+    LEVELS, NODES, Range, VERSION, card_at, count_at, header_size, kind_at, maximum_at, range_at,
+    span_at, start_of, word_at,
 };
 
 // Refusal 1: the slice is too short, or not as long as it says.
@@ -97,8 +97,8 @@ fn range_fault(table: &[u8], i: usize, field: usize) -> bool
     ensures { result ≡ range_fault table.now i field }
 {
     let maximum = maximum_at(table, field);
-    let range = range_at(table, i, field);
-    maximum < range.low || maximum < range.high
+    let Range { low, high } = range_at(table, i, field);
+    maximum < low || maximum < high
 }
 
 // Refusal 7: a low or a high over the maximum.

@@ -1,11 +1,7 @@
 -- `applying::fill_field` meets its contract: marking the runs keeps the sets.
-use Rattle.encoding.proofs.Places.{header_held}
 use Rattle.applying.proofs.Filling.{with_runs}
 use Rattle.std.proofs.Common.{arith}
 use Rattle.applying.proofs.fill_field.Goals as goal
-
-pub maximum_at-requires : goal.maximum_at-requires
-maximum_at-requires c = (header_held c.args.table.now c.requires.well_formed.records, c.requires.field_lt_fields)
 
 pub returns-clause-field_filled : goal.returns-clause-field_filled
 returns-clause-field_filled c =

@@ -1,29 +1,19 @@
 -- `applying::members` meets its contract: of the nodes passed so far, those that apply in the field are in the set.
-use mathlib.Core.Path.{◌≡◌, sym, ◌∙◌}
+use mathlib.Core.Path.{sym, ◌∙◌}
 use Prim.Native.Nat.{◌+◌, ◌<◌}
 use Rattle.encoding.specs.Layout.{count}
-use Rattle.encoding.proofs.Places.{header_held, node_held}
 use Rattle.applying.proofs.FieldAlone.{node_in, nodes_out}
 use Rattle.std.proofs.Common.{arith}
 use Rattle.applying.proofs.members.Goals as goal
 use Rattle.applying.proofs.members.Goals.{In-loop-i}
 
-pub count_at-count-requires : goal.count_at-count-requires
-count_at-count-requires c = header_held c.args.table.now c.requires.well_formed.records
-
 there : (c : In-loop-i) → c.loop-i.i < count c.args.table.now
 there c = omega (arith, c.count_at-count.ensures.0)
-
-pub holds-requires : goal.holds-requires
-holds-requires c = (node_held c.args.table.now c.requires.well_formed.records c.loop-i.i (there (goal.at.holds-requires c).In-loop-i), c.requires.field_lt_fields)
 
 pub loop-i-preserved-then-holds : goal.loop-i-preserved-then-holds
 loop-i-preserved-then-holds c =
     node_in c.args.table.now c.args.field c.args.value c.requires.well_formed c.loop-i.i (there (goal.at.loop-i-preserved-then-holds c).In-loop-i) c.loop-i.set
     c.with-set.result (sym c.holds.ensures ∙ c.if-holds.true) c.with-set.ensures c.loop-i.invariant
-
-pub span_at-i-requires : goal.span_at-i-requires
-span_at-i-requires c = node_held c.args.table.now c.requires.well_formed.records _ (omega (arith, c.count_at-count.ensures.0))
 
 pub loop-i-preserved : goal.loop-i-preserved
 loop-i-preserved c =

@@ -1,17 +1,10 @@
 -- `deciding::decide` meets its contract: a group's running decision takes in its children of the set, one after another.
 use Rattle.std.proofs.Common.{ℕ, ◌+◌, refl, arith}
-use Rattle.ruling.proofs.Steps.{held}
 use Rattle.ruling.proofs.Decisions.{takes, ruled_rule}
 use Rattle.sets.specs.Sets.{has}
 use Rattle.deciding.proofs.MemberByMember.{BeforeChild, before_first, before_child, before_next, before_end}
 use Rattle.deciding.proofs.+decide.Goals as goal
 use Rattle.deciding.proofs.+decide.Goals.{In-Some}
-
-pub kind_at-kind-requires : goal.kind_at-kind-requires
-kind_at-kind-requires t c = held c.args.table.now c.requires.well_formed.0 c.args.i c.requires.i_bound.0
-
-pub span_at-requires : goal.span_at-requires
-span_at-requires t c = held c.args.table.now c.requires.well_formed.0 c.args.i c.requires.i_bound.0
 
 pub loop-child-init : goal.loop-child-init
 loop-child-init t c = (
@@ -27,9 +20,6 @@ take-running-requires t c = (
   c.requires.well_formed.1,
   takes (has c.args.applying) c.args.table.now c.in-Some.child c.loop-child.invariant.1.reachable c.decide-decision.ensures,
 )
-
-pub span_at-requires-in-Some : goal.span_at-requires-in-Some
-span_at-requires-in-Some t c = held c.args.table.now c.requires.well_formed.0 c.in-Some.child (child_in (goal.at.span_at-requires-in-Some t c).In-Some).inside
 
 pub loop-child-preserved : goal.loop-child-preserved
 loop-child-preserved t c =

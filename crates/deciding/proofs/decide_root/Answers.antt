@@ -4,12 +4,5 @@ use Rattle.ruling.proofs.Decisions.{ruled_not}
 use Rattle.sets.specs.Sets.{has}
 use Rattle.deciding.proofs.decide_root.Goals as goal
 
-pub decide-requires : goal.decide-requires
-decide-requires c = record {
-  well_formed = (c.requires.well_formed, c.ways-ways.ensures);
-  closed = c.requires.closed;
-  i_bound = (c.requires.well_formed.some, sym c.has.ensures ∙ c.if-has.true);
-}
-
 pub returns-else-has : goal.returns-else-has
 returns-else-has c = ruled_not (has c.args.applying) c.args.table.now 0 (sym c.has.ensures ∙ c.if-has.false)

@@ -6,21 +6,10 @@ use lib.Seq.{sets}
 use Rattle.encoding.specs.Layout.{count}
 use Rattle.ruling.specs.Meaning.{cards}
 use Rattle.sets.specs.Sets.{has}
-use Rattle.encoding.proofs.Places.{header_held}
-use Rattle.ruling.proofs.Steps.{held}
 use Rattle.deciding.proofs.CardByCard.{before_member, after_rule, after_group, before_end, stored_few}
 use Rattle.std.proofs.Common.{arith}
 use Rattle.deciding.proofs.gather.Goals as goal
 use Rattle.deciding.proofs.gather.Goals.{In_default, in-0-to-3, in_default-kind_at}
-
-pub count_at-count-requires : goal.count_at-count-requires
-count_at-count-requires c = header_held c.args.table.now c.requires.records
-
-pub kind_at-requires : goal.kind_at-requires
-kind_at-requires c = held c.args.table.now c.requires c.in-Some.i (omega (arith, c.count_at-count.ensures.0, c.in-Some.ensures.1))
-
-pub card_at-requires : goal.card_at-requires
-card_at-requires c = held c.args.table.now c.requires c.in-Some.i (omega (arith, c.count_at-count.ensures.0, c.in-Some.ensures.1))
 
 pub overflow_add-stored : goal.overflow_add-stored
 overflow_add-stored c = omega (arith, stored_few c.loop-i.invariant.1, c.requires.few)

@@ -2,7 +2,7 @@
 use Rattle.std.proofs.Common.{ltb, rules}
 use Rattle.std.proofs.lemmas.List.Sorted.{IsPartitionPoint-from_clause}
 use Rattle.answer.specs.Fields.{fields}
-use Rattle.lookup.proofs.RisingEdges.{last_of, edges_parted, part_is_edge}
+use Rattle.lookup.proofs.Halving.{last_of, edges_parted, part_is_edge}
 use Rattle.lookup.proofs.edge_of.Goals as goal
 
 pub returns : goal.returns

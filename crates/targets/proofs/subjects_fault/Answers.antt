@@ -10,13 +10,13 @@ returns-then-subjects-eq0 c = empty_refused c.args.maximum c.args.subjects c.if-
 pub loop-left-init : goal.loop-left-init
 loop-left-init c = refl
 
-pub returns-then-maximum-least_at : goal.returns-then-maximum-least_at
-returns-then-maximum-least_at c = next_refused c.args.maximum c.args.subjects c.loop-left.left c.loop-left.invariant (omega arith) ((omega (arith, c.if-subjects-eq0.false))) c.least_at.result c.least_at.ensures.0
-    c.least_at.ensures.1 (omega (arith, c.if-maximum-least_at.true))
+pub returns-then-from-member : goal.returns-then-from-member
+returns-then-from-member c = next_refused c.args.maximum c.args.subjects c.loop-left.left c.loop-left.invariant (omega arith) (omega arith) c.least_at-member.result c.least_at-member.ensures.0
+    c.least_at-member.ensures.1 (omega arith)
 
 pub loop-left-preserved : goal.loop-left-preserved
-loop-left-preserved c = next_passed c.args.maximum c.args.subjects c.loop-left.left c.loop-left.invariant c.least_at.result c.without_least-left.result
-    (omega (arith, c.if-maximum-least_at.false)) (c.without_least-left.ensures.by_index c.least_at.result c.least_at.ensures.0)
+loop-left-preserved c = next_passed c.args.maximum c.args.subjects c.loop-left.left c.loop-left.invariant c.least_at-member.result c.without_least-left.result
+    (omega arith) (c.without_least-left.ensures.by_index c.least_at-member.result c.least_at-member.ensures.0)
 
 pub returns : goal.returns
-returns c = all_passed c.args.maximum c.args.subjects c.loop-left.left c.loop-left.invariant (omega arith) ((omega (arith, c.if-subjects-eq0.false))) (omega (arith, c.loop-left-test.false))
+returns c = all_passed c.args.maximum c.args.subjects c.loop-left.left c.loop-left.invariant (omega arith) (omega arith) (omega arith)

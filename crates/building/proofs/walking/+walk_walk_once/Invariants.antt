@@ -1,5 +1,5 @@
 -- Before a value, those below it are walked. The fields left fall.
-use Rattle.std.proofs.Common.{◌≡◌, ◌+◌, ◌-◌, ◌*◌, ◌≤◌, ◌<◌, length}
+use Rattle.std.proofs.Common.{◌≡◌, ◌+◌, ◌-◌, ◌*◌, ◌≤◌, ◌<◌, length, IfSome}
 use Rattle.answer.specs.Fields.{fields}
 use Rattle.sets.specs.Sets.{has}
 use Rattle.encoding.specs.Layout.{maximum}
@@ -22,10 +22,9 @@ invariant-walk-loop-value l = record {
   inside : l.field < fields;
   most_is : l.most ≡ maximum l.table l.field;
   most_small : l.most ≤ 255;
-  near_small : l.near.place < most_places;
+  near_small : IfSome l.near (λ known. known.place < most_places);
   before : Before (level_by l.table l.field (has l.possible)) (Held (Remembers l.table l.initial.seen) l.initial.diagram l.initial.index l.end)
-      (RemembersNear l.table l.seen (l.field + 1) l.near) (length l.initial.diagram) l.initial.last l.initial.child l.diagram l.index l.last l.child
-      l.at l.edges l.value;
+      (RemembersNear l.table l.seen (l.field + 1) l.near) (length l.initial.diagram) l.fn.edges l.diagram l.index l.edges l.at l.value;
 }
 
 abbrev pub decreases-walk-loop-value : goal.decreases-walk-loop-value

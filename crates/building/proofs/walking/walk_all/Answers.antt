@@ -1,25 +1,21 @@
 -- `building::walking::walk_all` meets its contract: before the first field every node is possible, and no entry stands.
-use mathlib.Core.Path.{refl}
-use lib.ListN.{length, replicate}
+use Rattle.std.proofs.Common.{refl, length, replicate, arith}
 use Rattle.answer.specs.Answers.{zeros}
 use Rattle.applying.proofs.MembersAreClosed.{full_closed}
 use Rattle.entering.proofs.Indexing.{none_indexed}
-use Rattle.entering.proofs.ValueByValue.{rows_of}
 use Rattle.building.proofs.WalkedAll.{no_sets, all_walked}
-use Rattle.std.proofs.Common.{arith}
 use Rattle.building.proofs.walking.walk_all.Goals as goal
 
 pub fill-requires : goal.fill-requires
 fill-requires c = record {
   well_formed = c.requires.well_formed;
-  set_rows = no_sets (replicate 256 (zeros 3)) refl;
+  set_rows = no_sets (replicate 256 _) refl;
 }
 
 pub walk-requires : goal.walk-requires
 walk-requires c = record {
   well_formed = (c.requires.well_formed, c.fill.ensures.filled, full_closed c.args.table.now c.requires.well_formed c.full.result c.full.ensures);
   room = (c.requires.room, omega arith);
-  edge_rows = (rows_of (zeros 256) refl, rows_of (zeros 256) refl);
 }
 
 pub returns : goal.returns

@@ -28,13 +28,13 @@ stepped r c t next ek e =
     }
 
 -- the table's entry at the row of a running decision and a child that it can take in
-entry_is_step : (ways : List (List ℕ)) (r : Running) (c : Child) (row : ℕ) → row ≡ row_of r.kind r.decision r.counted c.counts → Combines ways → Takes r c →
-    get_or (get_or ways row []) c.decision 0 ≡ (step r.kind (so_far r) c).decision
-entry_is_step ways r c row e h t = ap (λ row. get_or (get_or ways row []) c.decision 0) e ∙ h.each r c t
+entry_is_step : (ways : List (List ℕ)) (r : Running) (c : Child) (row d : ℕ) → row ≡ row_of r.kind r.decision r.counted c.counts → d ≡ c.decision →
+    Combines ways → Takes r c → get_or (get_or ways row []) d 0 ≡ (step r.kind (so_far r) c).decision
+entry_is_step ways r c row d e ed h t = ap₂ (λ row d. get_or (get_or ways row []) d 0) e ed ∙ h.each r c t
 
 pub returns : goal.returns
 returns c =
     let self = c.args.self in
     let child = as_child c.args.decision c.args.counts in
     stepped self child c.requires.1 _ refl
-    (ap₂ as_child (entry_is_step c.args.ways.now self child c.row_of-row.result c.row_of-row.ensures.0 c.requires.0 c.requires.1) search)
+    (ap₂ as_child (entry_is_step c.args.ways.now self child c.row_of-row.result c.from.result c.row_of-row.ensures.0 c.from.ensures c.requires.0 c.requires.1) search)

@@ -31,14 +31,14 @@ module _ (d q : List ℕ) where
   abbrev cards : List ℕ
   cards = items (ruled_by d q).cards
 
--- the cards of the node at place p, as the code takes them
-abbrev taken : List ℕ → ℕ → List ℕ
-taken d p = take (p + 3 + count_at d p - (p + 3)) (drop (p + 3) d)
+-- the n cards of the node at place p, as the code takes them
+abbrev taken : List ℕ → ℕ → ℕ → List ℕ
+taken d p n = take (p + 3 + n - (p + 3)) (drop (p + 3) d)
 
 -- where request q ends at place p: the line, written into text t
 module _ {d q : List ℕ} {p : ℕ} (l : Landed d q p) where
-  cards-are : items (taken d p) ≡ cards d q
-  cards-are = cards_there d q p l _ (omega arith)
+  cards-are : (n : ℕ) → n ≡ count_at d p → items (taken d p n) ≡ cards d q
+  cards-are n e = cards_there d q p l _ (omega arith)
 
   -- what is left after the ranges
   module _ {t u : Text} (r : Puts t u (ranges (path_of d q))) where
@@ -52,9 +52,9 @@ module _ {d q : List ℕ} {p : ℕ} (l : Landed d q p) where
       word-put = partly_more ranges-put refl (puts_as w (word_there d q p l))
 
       -- what is left after the cards
-      module _ {x : Text} (y : Puts v x (items (taken d p))) where
+      module _ {x : Text} {n : ℕ} (e : n ≡ count_at d p) (y : Puts v x (items (taken d p n))) where
         cards-put : Partly t (line_of d q) x (newline ∷ [])
-        cards-put = partly_more word-put refl (puts_as y cards-are)
+        cards-put = partly_more word-put refl (puts_as y (cards-are n e))
 
 pub put_path-place-requires : goal.put_path-place-requires
 unfolding line
@@ -90,17 +90,17 @@ put_items-requires c =
     omega (
       arith,
       partly_first (word-put path.landed path.puts c.put_decision.ensures) (cards c.args.diagram.now c.args.values) (newline ∷ []) refl (room (goal.at.put_items-requires c).Start c.type_inv.diagram),
-      ap length (cards-are path.landed),
+      ap length (cards-are path.landed _ c.from.ensures),
     )
 
 pub end_line-requires : goal.end_line-requires
 end_line-requires c =
     let path = c.put_path-place.ensures in
-    partly_first (cards-put path.landed path.puts c.put_decision.ensures c.put_items.ensures) (newline ∷ []) [] refl (room (goal.at.end_line-requires c).Start c.type_inv.diagram)
+    partly_first (cards-put path.landed path.puts c.put_decision.ensures c.from.ensures c.put_items.ensures) (newline ∷ []) [] refl (room (goal.at.end_line-requires c).Start c.type_inv.diagram)
 
 pub returns : goal.returns
 returns c =
     let path = c.put_path-place.ensures in
-    let put = cards-put path.landed path.puts c.put_decision.ensures c.put_items.ensures in
+    let put = cards-put path.landed path.puts c.put_decision.ensures c.from.ensures c.put_items.ensures in
     let w = partly_all (partly_more put refl c.end_line.ensures) refl in
     record { puts = w; upper_bound = omega (arith, w.written.ends, fits (goal.at.returns c).Start c.type_inv.diagram) }

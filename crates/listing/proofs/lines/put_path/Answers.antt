@@ -1,15 +1,15 @@
 -- `listing::lines::put_path` meets its contract: the ranges of the fields so far are written, and lead to the place.
-use Rattle.std.proofs.Common.{◌≡◌, ◌+◌, ◌≤◌, refl, ap, [], ◌∷◌, ◌++◌, length, drop, arith}
+use Rattle.std.proofs.Common.{◌≡◌, ◌∙◌, ◌+◌, ◌≤◌, refl, sym, ap, [], ◌∷◌, ◌++◌, length, drop, arith}
 use Rattle.answer.specs.Fields.{fields}
 use Rattle.answer.specs.Requests.{value}
 use Rattle.diagram.proofs.Descent.{EdgeAsked, down_none, edge_asked, down_more, landed}
-use Rattle.diagram.specs.Layout.{last_at, child_at}
+use Rattle.diagram.specs.Layout.{child_at}
 use Rattle.listing.proofs.PathRanges.{ranges_next, ranges_end}
 use Rattle.listing.proofs.Writing.{Partly, partly_none, partly_first, partly_more, partly_all}
 use Rattle.listing.specs.Paths.{path_from, path_of}
 use Rattle.listing.specs.Text.{space, range, ranges}
 use Rattle.listing.proofs.lines.put_path.Goals as goal
-use Rattle.listing.proofs.lines.put_path.Goals.{At-loop-value, In-loop-value, After-first_of-low}
+use Rattle.listing.proofs.lines.put_path.Goals.{At-loop-value, In-loop-value, After-from}
 
 -- after the last field
 ended : (c : At-loop-value) → fields ≤ c.loop-value.value-index →
@@ -25,17 +25,22 @@ asked c =
     edge_asked c.args.diagram.now c.requires.sound c.loop-value.place f c.loop-value.invariant.0.entry c.loop-value-test.true _ (c.requires.within f c.loop-value-test.true)
 
 -- the bytes left before a field: its range, a space, and the ranges of the fields after it
-next : (c : After-first_of-low) → let d = c.args.diagram.now in let p = c.loop-value.place in let q = c.args.values in let j = c.edge_of-edge.result in
-    ranges (path_from d p (drop c.loop-value.value-index q)) ≡ range c.first_of-low.result (last_at d p j) ++ space ∷ ranges (path_from d (child_at d p j) (drop (c.loop-value.value-index + 1) q))
+next : (c : After-from) → let d = c.args.diagram.now in let p = c.loop-value.place in let q = c.args.values in let j = c.edge_of-edge.result in
+    ranges (path_from d p (drop c.loop-value.value-index q)) ≡ range c.first_of-low.result c.from.result ++ space ∷ ranges (path_from d (child_at d p j) (drop (c.loop-value.value-index + 1) q))
 next c =
     let long : length c.args.values ≡ fields = omega arith in
-    ranges_next c.args.diagram.now c.args.values c.loop-value.place c.loop-value.value-index _ c.edge_of-edge.result c.first_of-low.result (omega (arith, long, c.loop-value-test.true)) refl c.edge_of-edge.ensures.0 c.first_of-low.ensures.0
+    ranges_next c.args.diagram.now c.args.values c.loop-value.place c.loop-value.value-index _ c.edge_of-edge.result c.first_of-low.result c.from.result (omega (arith, long, c.loop-value-test.true)) refl c.edge_of-edge.ensures.0 c.first_of-low.ensures.0 c.from.ensures
 
 pub bounds-diagram-1 : goal.bounds-diagram-1
 bounds-diagram-1 c = omega (arith, c.requires.sound.header_there)
 
 pub loop-value-init : goal.loop-value-init
-loop-value-init c = (down_none c.args.diagram.now c.requires.sound c.args.values c.requires.within _ refl, partly_none refl)
+loop-value-init c =
+    let d = c.args.diagram.now in
+    let q = c.args.values in (
+      down_none d c.requires.sound q c.requires.within _ c.from-place.ensures,
+      partly_none (ap (λ p. ranges (path_from d p q)) c.from-place.ensures),
+    )
 
 pub edge_of-edge-requires : goal.edge_of-edge-requires
 edge_of-edge-requires c =
@@ -54,12 +59,12 @@ bounds-diagram-place c =
 
 pub put_range-requires : goal.put_range-requires
 put_range-requires c =
-    let n = next (goal.at.put_range-requires c).After-first_of-low in
-    partly_first c.loop-value.invariant.1 (range c.first_of-low.result (last_at c.args.diagram.now c.loop-value.place c.edge_of-edge.result)) _ n c.requires.room_for
+    let n = next (goal.at.put_range-requires c).After-from in
+    partly_first c.loop-value.invariant.1 (range c.first_of-low.result c.from.result) _ n c.requires.room_for
 
 pub put-requires : goal.put-requires
 put-requires c =
-    let n = next (goal.at.put-requires c).After-first_of-low in
+    let n = next (goal.at.put-requires c).After-from in
     let ranged = partly_more c.loop-value.invariant.1 n c.put_range.ensures in
     partly_first ranged (space ∷ []) _ refl c.requires.room_for
 
@@ -74,11 +79,11 @@ loop-value-preserved c =
     let q = c.args.values in
     let p = c.loop-value.place in
     let long : length c.args.values ≡ fields = omega arith in
-    let n = next (goal.at.loop-value-preserved c).After-first_of-low in
+    let n = next (goal.at.loop-value-preserved c).After-from in
     let ranged = partly_more c.loop-value.invariant.1 n c.put_range.ensures in (
       down_more d c.requires.sound q c.requires.within p c.loop-value.value-index c.loop-value.invariant.0 c.loop-value-test.true (omega (arith, long, c.loop-value-test.true)) _ _ refl
-          (ap (child_at d p) c.edge_of-edge.ensures.0),
-      partly_more ranged refl c.put.ensures,
+          (c.from-place-in-loop-value.ensures ∙ ap (child_at d p) c.edge_of-edge.ensures.0),
+      partly_more ranged (ap (λ p'. space ∷ ranges (path_from d p' (drop (c.loop-value.value-index + 1) q))) (sym c.from-place-in-loop-value.ensures)) c.put.ensures,
     )
 
 pub returns : goal.returns

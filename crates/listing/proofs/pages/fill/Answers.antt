@@ -1,18 +1,18 @@
 -- `listing::pages::fill` meets its contract: the lines up to the next request are written, and fewer requests are left.
-use Rattle.std.proofs.Common.{◌≡◌, refl, sym, ap, ◌∙◌, ℕ, ◌+◌, ◌≤◌, ◌<◌, true, false, List, Option, length, arith}
+use Rattle.std.proofs.Common.{◌≡◌, refl, ◌+◌, ◌≤◌, ◌<◌, true, length, arith}
 use Rattle.std.proofs.lemmas.Bool.{false≢true}
 use Rattle.answer.specs.Fields.{fields}
 use Rattle.listing.proofs.Filling.{filling_none, filled, filled_puts, filled_onward, filling_more}
 use Rattle.listing.proofs.Writing.{puts_long}
 use Rattle.listing.proofs.RequestsLeft.{fewer_left}
 use Rattle.listing.specs.Text.{most_line}
-use Rattle.listing.specs.Paths.{After, after, next_of, Later}
+use Rattle.listing.specs.Paths.{After, next_of, Later}
 use Rattle.listing.specs.Listing.{Paged, Onward}
 use Rattle.listing.proofs.pages.fill.Goals as goal
-use Rattle.listing.proofs.pages.fill.Goals.{After-next-next}
+use Rattle.listing.proofs.pages.fill.Goals.{After-next}
 
 -- a line is written and the next request found
-module _ (c : After-next-next) where
+module _ (c : After-next) where
   long : length c.line.new.text.bytes.now ≡ length c.args.text.now.bytes.now
   long = puts_long (filled_puts c.loop-following.invariant c.line.ensures.puts)
 
@@ -41,26 +41,25 @@ line-requires c = record {
   line_fits = c.loop-following.invariant.room;
 }
 
-pub next-next-requires : goal.next-next-requires
-next-next-requires c = record { sound = c.requires.sound; within = c.loop-following.invariant.request.1 }
+pub next-requires : goal.next-requires
+next-requires c = record { sound = c.requires.sound; within = c.loop-following.invariant.request.1 }
 
 pub returns-in_default : goal.returns-in_default
 returns-in_default c =
-    let n = (goal.at.returns-in_default c).After-next-next in
-    let v = c.next-next.ensures.value in
-    let over : (after c.next-next.result).more ≡ false = ap (λ (r : Option (List ℕ)). (after r).more) c.in_default.is in
+    let n = (goal.at.returns-in_default c).After-next in
+    let v = c.in_default.ensures.value in
     record {
-      paged = paged n (after c.next-next.result) v (λ m. absurd (false≢true (sym over ∙ m)));
-      onward = onward n (after c.next-next.result) v (λ m. absurd (false≢true (sym over ∙ m)));
+      paged = paged n _ v (λ m. absurd (false≢true m));
+      onward = onward n _ v (λ m. absurd (false≢true m));
       same_reference = (filled_puts c.loop-following.invariant c.line.ensures.puts).same_reference;
     }
 
 pub overflow_sub-text : goal.overflow_sub-text
-overflow_sub-text c = let n = (goal.at.overflow_sub-text c).After-next-next in omega (arith, long n, ends n)
+overflow_sub-text c = let n = (goal.at.overflow_sub-text c).After-next in omega (arith, long n, ends n)
 
 pub returns-then-text-lt-LINE : goal.returns-then-text-lt-LINE
 returns-then-text-lt-LINE c =
-    let n = (goal.at.returns-then-text-lt-LINE c).After-next-next in
+    let n = (goal.at.returns-then-text-lt-LINE c).After-next in
     let v = c.in-Some.ensures.value in
     record {
       paged = paged n _ v (λ m. omega (arith, c.if-text-lt-LINE.true));

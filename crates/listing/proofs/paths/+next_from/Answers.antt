@@ -37,31 +37,31 @@ pub next_from-below-requires : goal.next_from-below-requires
 next_from-below-requires t c =
     let l : c.args.field < fields = left t (goal.at.next_from-below-requires t c).Else-field-eq-FIELDS in
     let e = child_here c.args.diagram.now c.requires.sound c.args.place c.args.field c.requires.entry_before.0 l _ (c.requires.within c.args.field l) in
-    (omega (arith, c.decreases, l), (c.requires.sound, (c.requires.within, (rw (← c.edge_of-edge.ensures.0) at e, omega (arith, l)))))
+    (omega (arith, c.decreases, l), (c.requires.sound, (c.requires.within, (rw (← c.edge_of-edge.ensures.0, ← c.from-child.ensures) at e, omega (arith, l)))))
 
 pub returns-then-is_some : goal.returns-then-is_some
 returns-then-is_some t c =
     moves_below c.args.diagram.now c.args.values c.args.place c.args.field _ c.edge_of-edge.result _
-    (left_here t (goal.at.returns-then-is_some t c).Else-field-eq-FIELDS) refl c.edge_of-edge.ensures.0 refl
+    (left_here t (goal.at.returns-then-is_some t c).Else-field-eq-FIELDS) refl c.edge_of-edge.ensures.0 c.from-child.ensures
     c.next_from-below.result c.next_from-below.ensures (sym c.is_some.ensures ∙ c.if-is_some.true)
 
 pub first_of-requires : goal.first_of-requires
 first_of-requires t c =
     let a = asked t (goal.at.first_of-requires t c).Else-field-eq-FIELDS in
-    (a.0.0, omega (arith, c.if-edge-diagram.true), a.0.1)
+    (a.0.0, omega (arith, c.if-edge-from.true), a.0.1)
 
-pub returns-then-edge-diagram : goal.returns-then-edge-diagram
-returns-then-edge-diagram t c =
+pub returns-then-edge-from : goal.returns-then-edge-from
+returns-then-edge-from t c =
     moves_on c.args.diagram.now c.args.values c.args.place c.args.field _ c.edge_of-edge.result _
-    (left_here t (goal.at.returns-then-edge-diagram t c).Else-field-eq-FIELDS) refl c.edge_of-edge.ensures.0 refl
+    (left_here t (goal.at.returns-then-edge-from t c).Else-field-eq-FIELDS) refl c.edge_of-edge.ensures.0 c.from-child.ensures
     c.next_from-below.result c.next_from-below.ensures (sym c.is_some.ensures ∙ c.if-is_some.false)
-    (omega (arith, c.if-edge-diagram.true)) c.first_of.result c.first_of.ensures.0 _
-    (zeros_after c.args.values c.fill.new.self c.args.field _ c.first_of.result (left_here t (goal.at.returns-then-edge-diagram t c).Else-field-eq-FIELDS) (let long : length c.args.values ≡ fields = omega arith in omega (arith, long))
+    (omega (arith, c.if-edge-from.true)) c.first_of.result c.first_of.ensures.0 _
+    (zeros_after c.args.values c.fill.new.self c.args.field _ c.first_of.result (left_here t (goal.at.returns-then-edge-from t c).Else-field-eq-FIELDS) (let long : length c.args.values ≡ fields = omega arith in omega (arith, long))
     (c.fill.ensures.after (λ y h. search rules) ∙ search rules))
 
 pub returns : goal.returns
 returns t c =
     nothing_follows c.args.diagram.now c.args.values c.args.place c.args.field _ c.edge_of-edge.result _
-    (left_here t (goal.at.returns t c).Else-field-eq-FIELDS) refl c.edge_of-edge.ensures.0 refl
+    (left_here t (goal.at.returns t c).Else-field-eq-FIELDS) refl c.edge_of-edge.ensures.0 c.from-child.ensures
     c.next_from-below.result c.next_from-below.ensures (sym c.is_some.ensures ∙ c.if-is_some.false)
-    (omega (arith, c.if-edge-diagram.false))
+    (omega (arith, c.if-edge-from.false))

@@ -5,6 +5,7 @@ use Rattle.answer.specs.Answers.{zeros}
 use Rattle.table.specs.Reading.{table_refusals}
 use Rattle.table.proofs.Accepting.{read_accepted, read_refused}
 use Rattle.table.proofs.AcceptedIsWellFormed.{well_formed}
+use Rattle.ruling.specs.Ruling.{ruled_answer}
 use Rattle.ruling.proofs.InTwoParts.{turned_away, asked_then}
 use Rattle.std.proofs.Common.{rules}
 use Rattle.ruling.proofs.ruling.rule.Goals as goal
@@ -18,8 +19,8 @@ returns-then-reading-ne0 c =
     f.1.0 f.1.1 c.clear.ensures in
     record { value = r.0; cards_after = r.1 }
 
-pub rule_accepted-answer-requires : goal.rule_accepted-answer-requires
-rule_accepted-answer-requires c =
+pub rule_accepted-outcome-requires : goal.rule_accepted-outcome-requires
+rule_accepted-outcome-requires c =
     let t = c.args.table.now in
     record {
       well_formed = (well_formed t (read_accepted t c.read-reading.result c.read-reading.ensures c.if-reading-ne0.false), search rules);
@@ -31,7 +32,7 @@ returns c =
     let t = c.args.table.now in
     let r =
     asked_then (table_refusals t) t c.args.request.subjects c.args.request.others (length c.args.cards.now) c.for_subjects.result
-    c.rule_accepted-answer.new.cards (read_accepted t c.read-reading.result c.read-reading.ensures c.if-reading-ne0.false) (length c.clear.new.list)
-    c.clear.auto.list c.rule_accepted-answer.result c.rule_accepted-answer.ensures.value c.for_subjects.ensures
-    c.rule_accepted-answer.ensures.cards_after in
+    c.rule_accepted-outcome.new.cards (read_accepted t c.read-reading.result c.read-reading.ensures c.if-reading-ne0.false) (length c.clear.new.list)
+    c.clear.auto.list (ruled_answer c.rule_accepted-outcome.result) c.rule_accepted-outcome.ensures.value c.for_subjects.ensures
+    c.rule_accepted-outcome.ensures.cards_after in
     record { value = r.0; cards_after = r.1 }

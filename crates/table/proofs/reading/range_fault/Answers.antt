@@ -8,11 +8,12 @@ use Rattle.table.proofs.reading.range_fault.Goals as goal
 pub maximum_at-maximum-requires : goal.maximum_at-maximum-requires
 maximum_at-maximum-requires c = (node_header c.args.table.now c.args.i c.requires.node_held, c.requires.field_lt_fields)
 
-pub returns-then-maximum-range : goal.returns-then-maximum-range
-returns-then-maximum-range c =
-    lt-ltb _ _ c.if-maximum-range.true
-    ∙ range_low c.args.table.now c.args.i c.args.field _ _ c.maximum_at-maximum.ensures c.range_at-range.ensures.0 c.if-maximum-range.true
+pub returns-then-maximum-low : goal.returns-then-maximum-low
+returns-then-maximum-low c =
+    lt-ltb _ _ c.if-maximum-low.true
+    ∙ range_low c.args.table.now c.args.i c.args.field _ _ c.maximum_at-maximum.ensures c.range_at-low.ensures.0 c.if-maximum-low.true
 
-pub returns-else-maximum-range : goal.returns-else-maximum-range
-returns-else-maximum-range c =
-    range_high c.args.table.now c.args.i c.args.field _ _ c.maximum_at-maximum.ensures c.range_at-range.ensures.0 _ c.range_at-range.ensures.1 c.if-maximum-range.false
+pub returns-else-maximum-low : goal.returns-else-maximum-low
+returns-else-maximum-low c =
+    range_high c.args.table.now c.args.i c.args.field _ _ c.maximum_at-maximum.ensures c.range_at-low.ensures.0 _ c.range_at-low.ensures.1
+    c.if-maximum-low.false
