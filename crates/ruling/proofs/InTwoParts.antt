@@ -39,6 +39,14 @@ with_subjects rs r m numbered =
     ∙ sym (settled_first refused (answer_of r m) rs f.1))
     (first_or_none rs)
 
+-- the same, where some refusals come before those of what is asked
+pub subjects_counted : (before : List Refusal) (t : List ℕ) (s : ℕ) (others : List ℕ) (n : ℕ) → Numbered before →
+    for_subjects (ruled_or (before ++ asked_refusals t s others n) (groups_together t s others) 0) (size s)
+    ≡ ruled_after (before ++ asked_refusals t s others n) t s others
+subjects_counted before t s others n numbered =
+    with_subjects (before ++ asked_refusals t s others n) (groups_together t s others) (size s)
+    (all_join (λ r. 0 < r.number) before (asked_refusals t s others n) numbered (asked_numbered t s others n))
+
 module _ (before : List Refusal) (t : List ℕ) (s : ℕ) (others : List ℕ) (n : ℕ) (a : Answer) (list : List ℕ) where
   abbrev pub Answered : Type 0
   Answered =
