@@ -11,7 +11,7 @@ use crate::groups::{Ruled, rule_read};
 use answer::{Answer, JointRequest, OTHERS, Refusal, Refused, clear, field_fault};
 use encoding::layout::maxima_at;
 use sets::ones_at;
-use table::read;
+use table::Table;
 use targets::subjects_fault;
 
 // Rules on several subjects together by an accepted table, where the other fields have these values, with a list that was cleared: refusals 13,
@@ -59,11 +59,12 @@ pub fn rule(table: &[u8], request: JointRequest, cards: &mut [u16]) -> Answer
     ensures cards_after { cards.new ≡ ruled_list table.now request.subjects request.others (length cards.old) }
 {
     clear(cards);
-    let reading = read(table);
-    if reading.number != 0 {
-        return reading;
+    match Table::accept(table) {
+        Ok(table) => {
+            let others = request.others;
+            let outcome = rule_accepted(table.bytes, request.subjects, &others, cards);
+            for_subjects(outcome, request.subjects)
+        }
+        Err(refused) => Answer::from(refused),
     }
-    let others = request.others;
-    let outcome = rule_accepted(table, request.subjects, &others, cards);
-    for_subjects(outcome, request.subjects)
 }
