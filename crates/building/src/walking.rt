@@ -106,7 +106,7 @@ fn walk(
     if field == FIELDS {
         return enter_ruling(table, possible, diagram, &mut memory.index);
     }
-    let most = maximum_at(table, field) as usize;
+    let most = usize::from(maximum_at(table, field));
     let mut near = None;
     memory.edges[field].clear();
     let mut value: usize = 0;

@@ -1,5 +1,5 @@
 -- `building::walking::walk` and `walk_once`, which call each other, meet their contracts: before a value, those below it are walked.
-use Rattle.std.proofs.Common.{◌≡◌, suc, arith, ℕ}
+use Rattle.std.proofs.Common.{◌≡◌, ◌∙◌, suc, arith, ℕ}
 use Rattle.sets.specs.Sets.{has}
 use Rattle.encoding.specs.Layout.{maximum}
 use Rattle.applying.specs.Members.{ruling_from}
@@ -27,13 +27,13 @@ walk-returns-then-field-eq-FIELDS-clause-walks t c =
     c.enter_ruling.ensures.bounded c.enter_ruling.ensures.standing)
     (λ es. walk_last c.args.table.now (has c.args.possible) c.args.field es (omega arith))
 
-pub walk-maximum_at-most-requires : goal.walk-maximum_at-most-requires
-walk-maximum_at-most-requires t c = (header_there c.args.table.now c.requires.well_formed.0, omega arith)
+pub walk-maximum_at-requires : goal.walk-maximum_at-requires
+walk-maximum_at-requires t c = (header_there c.args.table.now c.requires.well_formed.0, omega arith)
 
 pub walk-loop-value-init : goal.walk-loop-value-init
 walk-loop-value-init t c = record {
   inside = omega arith;
-  most_is = c.maximum_at-most.ensures;
+  most_is = c.from-most.ensures ∙ c.maximum_at.ensures;
   most_small = omega arith;
   near_small = tt;
   before =
