@@ -30,19 +30,9 @@ module _ (b e : List ℕ) where
   version_differs h = sym (ap (λ x. not x || some_below fields differs) (ne_eqb (version b) (version e) h))
 
   module _ (s : version b ≡ version e) where
-    by_maxima : headers_differ b e ≡ some_below fields differs
+    pub by_maxima : headers_differ b e ≡ some_below fields differs
     unfolding headers_differ
     by_maxima = ap (λ x. not x || some_below fields differs) (eq-eqb (version b) (version e) s)
-
-    pub maximum_differs : (f : ℕ) → f < fields → (maximum b f ≡ maximum e f → ⊥) → true ≡ headers_differ b e
-    maximum_differs f l h = sym (by_maxima ∙ some_where differs fields f l (ap not (ne_eqb (maximum b f) (maximum e f) h)))
-
-    pub headers_same : (f : ℕ) → f ≡ fields → some_below f differs ≡ false → false ≡ headers_differ b e
-    headers_same f z h = sym (by_maxima ∙ ap (λ n. some_below n differs) (sym z) ∙ h)
-
-  -- the maxima are the same so far, and in one field more
-  pub same_more : (f : ℕ) → some_below f differs ≡ false → maximum b f ≡ maximum e f → some_below (f + 1) differs ≡ false
-  same_more f h s = some_more differs f h (ap not (eq-eqb (maximum b f) (maximum e f) s))
 
   -- where 18 does not apply
 

@@ -4,7 +4,7 @@ ghost use Rattle.attaching.specs.Attached.{attached, attached_table};
 
 use crate::faults::fit_fault;
 use crate::writing::{attached_size, write_attached};
-use answer::{Answer, clear_bytes};
+use answer::{Answer, Refusal};
 use table::read;
 
 // Writes the base with the expansion's root as the last child of its root: how many bytes the table takes. The bytes past them become 0.
@@ -12,7 +12,7 @@ pub fn attach(base: &[u8], expansion: &[u8], table: &mut [u8]) -> Answer
     ensures value { result ≡ attached base.now expansion.now (length table.old) }
     ensures table_after { table.new ≡ attached_table base.now expansion.now (length table.old) }
 {
-    clear_bytes(table);
+    table.fill(0);
     let reading = read(base);
     if reading.number != 0 {
         return reading;
@@ -21,13 +21,12 @@ pub fn attach(base: &[u8], expansion: &[u8], table: &mut [u8]) -> Answer
     if reading.number != 0 {
         return reading;
     }
-    let number = fit_fault(base, expansion);
-    if number != 0 {
-        return Answer::refused(number, 0);
+    if let Some(refusal) = fit_fault(base, expansion) {
+        return Answer::from(refusal.at(0));
     }
     let size = attached_size(base, expansion);
     if table.len() < size {
-        return Answer::refused(11, 0);
+        return Answer::from(Refusal::Room.at(0));
     }
     write_attached(base, expansion, table);
     Answer::counted(size)

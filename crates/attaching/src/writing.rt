@@ -5,7 +5,7 @@ ghost use Rattle.answer.specs.Answers.{zeros, padded};
 ghost use Rattle.table.specs.WellFormed.{WellFormed};
 ghost use Rattle.attaching.specs.Attached.{joined, attached_bytes};
 
-use answer::store_bytes;
+use answer::store;
 use encoding::layout::{count_at, header_size};
 use encoding::writing::{put_bytes_after, put_count, put_span};
 
@@ -25,9 +25,8 @@ fn join(base: &[u8], expansion: &[u8], table: &mut [u8])
     ensures { table.new ≡ sets table.old 0 (joined base.now expansion.now) }
 {
     let header = header_size(expansion);
-    let end = expansion.len();
-    store_bytes(base, table, 0);
-    store_bytes(&expansion[header..end], table, base.len());
+    store(base, table, 0);
+    store(&expansion[header..], table, base.len());
 }
 
 // The table into zeros that have room for it.

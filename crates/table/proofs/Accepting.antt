@@ -5,13 +5,13 @@ use mathlib.Core.List.{List}
 use Prim.Native.Nat.{ℕ, ◌<◌}
 use native.Mathlib.Omega.{arith}
 use lib.Dec.{lit<}
-use Rattle.answer.specs.Answers.{refused, blank, counted}
+use Rattle.answer.specs.Answers.{refused, counted}
 use Rattle.answer.specs.Numbers.{number_of}
-use Rattle.answer.specs.Refusals.{Refusal, upward, settled, None, First}
+use Rattle.answer.specs.Refusals.{Refusal, upward, first_number, All, None, First}
 use Rattle.answer.specs.declared.Answer.{Answer}
-use Rattle.answer.specs.declared.refusal.Refused.{Refused}
+use Rattle.answer.specs.declared.refusal.Refusal.{Refusal as Name}
 use Rattle.answer.proofs.Numbers.{number_positive}
-use Rattle.answer.proofs.Settling.{all_join, all_parts, all_upward, upward_all, first_in, first_after, first_upward, settled_first, settled_none, Numbered, number_none, number_first}
+use Rattle.answer.proofs.Settling.{all_join, all_parts, all_upward, upward_all, all_first, first_in, first_after, first_upward, settled_first, settled_none, Numbered, number_none, number_first}
 use Rattle.encoding.specs.Layout.{version, count}
 use Rattle.table.specs.Reading.{header_refusals, node_refusals, table_refusals, reading, Accepted}
 use Rattle.table.proofs.Header.{version_passed}
@@ -38,7 +38,7 @@ module _ (t : List ℕ) where
   pub accepted_version : Accepted t → version t ≡ 1
   accepted_version c = version_passed t (accepted_header c).1.0
 
-  -- where a check of the header passes, or one of a node, nothing is refused there
+  -- where no refusal is found in the header, or of a node, nothing is refused there
 
   header_numbered : Numbered (header_refusals t)
   header_numbered = (lit< tt, (lit< tt, (lit< tt, tt)))
@@ -46,38 +46,38 @@ module _ (t : List ℕ) where
   node_numbered : (i : ℕ) → Numbered (node_refusals t i)
   node_numbered i = (lit< tt, (lit< tt, (lit< tt, (lit< tt, (lit< tt, tt)))))
 
-  passed_there : (rs : List Refusal) → Numbered rs → blank ≡ settled refused blank rs → None rs
-  passed_there rs numbered e =
-      number_none refused (λ a. a.number) (λ number place. refl) blank refl rs numbered (sym (ap (λ a. a.number) e))
+  passed_there : (rs : List Refusal) → Numbered rs → 0 ≡ first_number rs → None rs
+  passed_there rs numbered e = number_none (λ number place. number) (λ n. n) (λ number place. refl) 0 refl rs numbered (sym e)
 
-  pub header_passed : blank ≡ settled refused blank (header_refusals t) → None (header_refusals t)
+  pub header_passed : 0 ≡ first_number (header_refusals t) → None (header_refusals t)
   header_passed = passed_there (header_refusals t) header_numbered
 
-  pub node_passed : (i : ℕ) → blank ≡ settled refused blank (node_refusals t i) → None (node_refusals t i)
+  pub node_passed : (i : ℕ) → 0 ≡ first_number (node_refusals t i) → None (node_refusals t i)
   node_passed i = passed_there (node_refusals t i) (node_numbered i)
 
-  -- where it refuses, that is the table's first refusal
-  module _ (r : Refused) where
-    refused_there : (rs : List Refusal) → refused (number_of r.refusal) r.place ≡ settled refused blank rs →
-        ((first : Refusal) → First rs first → First (table_refusals t) first) → refused (number_of r.refusal) r.place ≡ reading t
-    refused_there rs e among =
-        let f = number_first refused (λ a. a.number) (λ number place. refl) blank refl rs (refused (number_of r.refusal) r.place) e
-        (λ z. omega (arith, z, number_positive r.refusal)) in
-        f.1.1 ∙ sym (settled_first refused (counted (count t)) (table_refusals t) (among f.0 f.1.0))
+  -- one that is found is the table's first
+  module _ (refusal : Name) where
+    refused_there : (rs : List Refusal) (place : ℕ) → All (λ r. r.place ≡ place) rs → number_of refusal ≡ first_number rs →
+        ((r : Refusal) → First rs r → First (table_refusals t) r) → refused (number_of refusal) place ≡ reading t
+    refused_there rs place at e among =
+        let f = number_first (λ number place. number) (λ n. n) (λ number place. refl) 0 refl rs (number_of refusal) e
+        (λ z. omega (arith, z, number_positive refusal)) in
+        ap (λ k. refused k place) f.1.1
+        ∙ ap (refused f.0.number) (sym (all_first (λ r. r.place ≡ place) rs at f.1.0))
+        ∙ sym (settled_first refused (counted (count t)) (table_refusals t) (among f.0 f.1.0))
 
-    pub header_refused : refused (number_of r.refusal) r.place ≡ settled refused blank (header_refusals t) →
-        refused (number_of r.refusal) r.place ≡ reading t
+    pub header_refused : number_of refusal ≡ first_number (header_refusals t) → refused (number_of refusal) 0 ≡ reading t
     unfolding table_refusals
     header_refused e =
-        refused_there (header_refusals t) e
-        (λ first f. first_in (header_refusals t) (upward (node_refusals t) 0 (count t)) f)
+        refused_there (header_refusals t) 0 (refl, (refl, (refl, tt))) e
+        (λ r f. first_in (header_refusals t) (upward (node_refusals t) 0 (count t)) f)
 
     pub node_refused : None (header_refusals t) → (i : ℕ) → i < count t → ((j : ℕ) → j < i → None (node_refusals t j)) →
-        refused (number_of r.refusal) r.place ≡ settled refused blank (node_refusals t i) → refused (number_of r.refusal) r.place ≡ reading t
+        number_of refusal ≡ first_number (node_refusals t i) → refused (number_of refusal) i ≡ reading t
     unfolding table_refusals
     node_refused p i l before e =
-        refused_there (node_refusals t i) e
-        (λ first f.
+        refused_there (node_refusals t i) i (refl, (refl, (refl, (refl, (refl, tt))))) e
+        (λ r f.
         first_after (header_refusals t) (upward (node_refusals t) 0 (count t)) p
         (first_upward (node_refusals t) i f (count t) 0 (omega arith) (omega arith) (λ j a b. before j b)))
 

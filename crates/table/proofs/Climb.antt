@@ -27,16 +27,6 @@ module _ (ends : List ℕ) (i : ℕ) where
       let z : d ≡ suc d - 1 = omega arith in
       ap (λ b. cond b (suc d) (deepest ends i d)) (le-ltb i (get_or ends (suc d) 0) h) ∙ ap (deepest ends i) z
 
-  pub deepest_within : (d : ℕ) → deepest ends i d ≤ d
-  deepest_within zero = omega arith
-  deepest_within (suc d) =
-      ⊎_elim
-      (λ (h : i < get_or ends (suc d) 0). omega (arith, deepest_here (suc d) (omega arith) h))
-      (λ (h : get_or ends (suc d) 0 ≤ i).
-      let z : suc d - 1 ≡ d = omega arith in
-      omega (arith, deepest_next (suc d) (omega arith) h, ap (deepest ends i) z, deepest_within d))
-      (lt_or_ge i (get_or ends (suc d) 0))
-
 -- The list holds, at its level, what f gives of node q and of each node above it.
 pub record Open {A : Type 0} (t : List ℕ) (f : ℕ → A) (none : A) (xs : List A) (q : ℕ) : Type 0 where
   pub held : (a : ℕ) → Above t q a → get_or xs (level t a) none ≡ f a
@@ -94,9 +84,9 @@ abbrev pub ParentOpen : List ℕ → List ℕ → (ℕ → Type 0) → ℕ → �
 ParentOpen t ends X r i = (r ≡ level t (parent t i)) × (Open t (end_of t) 0 ends (parent t i) × X (parent t i))
 
 -- it is found by climbing, where X holds of each node above one of which it holds
-pub parent_open : (t ends : List ℕ) (X : ℕ → Type 0) → ((q a : ℕ) → Above t q a → X q → X a) → (depth r i : ℕ) → After t ends X depth i →
+pub climbed : (t ends : List ℕ) (X : ℕ → Type 0) → ((q a : ℕ) → Above t q a → X q → X a) → (depth r i : ℕ) → After t ends X depth i →
     i < end_of t 0 → r ≡ deepest ends i depth → ParentOpen t ends X r i
-parent_open t ends X closed depth r i a l e =
+climbed t ends X closed depth r i a l e =
     let c = climb t ends i a.q a.ends_open a.earlier l a.over in (
       e ∙ ap (deepest ends i) a.on ∙ c.0,
       (open_above t (end_of t) 0 ends a.ends_open c.1, closed a.q (parent t i) c.1 a.more),

@@ -1,6 +1,6 @@
 -- Laws of refusals 1 to 8, one for each way through the code.
-use mathlib.Core.Path.{◌≡◌, sym, ap, ap₂, ◌∙◌}
-use mathlib.Core.Bool.{Bool, true, false, not, cond, ◌&&◌, ◌||◌}
+use mathlib.Core.Path.{◌≡◌, sym, ap, ◌∙◌}
+use mathlib.Core.Bool.{Bool, true, false, not, cond, ◌||◌}
 use mathlib.Core.Logic.{⊎_elim}
 use mathlib.Core.List.{List}
 use Prim.Native.Nat.{ℕ, ◌+◌, ◌≤◌, ◌<◌}
@@ -9,13 +9,12 @@ use native.Mathlib.Omega.{arith}
 use borrow.Author.Tests.{lt-ltb, le-ltb, eq-eqb, ne_eqb, ltb-false}
 use lib.Dec.{ltb, eqb}
 use lib.ListN.{length}
-use Rattle.answer.specs.Answers.{refused, blank}
-use Rattle.answer.specs.Refusals.{settled}
+use Rattle.answer.specs.Refusals.{settled, first_number}
 use Rattle.encoding.specs.Layout.{bytes_after, count, header, maximum, kind, span, low, high, HeaderHeld}
 use Rattle.table.specs.Tree.{is_rule, end_of, parent, level}
 use Rattle.table.specs.Open.{EndAbove}
 use Rattle.table.specs.Reading.{length_fault, kind_fault, odd_span, wrong_end, span_fault, level_fault, range_fault, refusals_after_kind, node_refusals}
-use Rattle.answer.proofs.Tests.{lt_or_ge, neither, or_false}
+use Rattle.answer.proofs.Tests.{neither}
 
 module _ (t : List ℕ) where
   -- refusal 1
@@ -54,7 +53,7 @@ module _ (t : List ℕ) where
       span_odd h = sym (span_by ∙ ap (λ b. b || wrong_end t i) h)
 
       module _ (h : odd ≡ false) (above : ℕ) (a : EndAbove t i above) where
-        span_root : i ≡ 0 → not (eqb s above) ≡ span_fault t i
+        pub span_root : i ≡ 0 → not (eqb s above) ≡ span_fault t i
         span_root z =
             sym (span_by ∙ ap (λ b. b || wrong_end t i) h ∙ wrong_end_root z
             ∙ ap (λ n. not (eqb (span t i) n)) (sym (a.root z)) ∙ ap (λ n. not (eqb n above)) (sym es))
@@ -64,20 +63,16 @@ module _ (t : List ℕ) where
             sym (span_by ∙ ap (λ b. b || wrong_end t i) h ∙ wrong_end_child l
             ∙ ap (λ n. ltb n (end_of t i)) (sym (a.child l)) ∙ ap (λ n. ltb above (i + n)) (sym es))
 
-        -- a root's end past that above is another one than the count
-        pub span_end : (ltb above (i + s) || (eqb i 0 && not (eqb s above))) ≡ span_fault t i
-        span_end =
+        -- the end is past that above, whether node i is the root or not
+        pub span_past : above < i + s → true ≡ span_fault t i
+        span_past l =
             ⊎_elim
-            (λ (z : i ≡ 0).
-            ⊎_elim
-            (λ (g : above < i + s).
-            ap (λ b. b || (eqb i 0 && not (eqb s above))) (lt-ltb above (i + s) g) ∙ sym (ap not (ne_eqb s above (λ q. omega (arith, q)))) ∙ span_root z)
-            (λ (g : i + s ≤ above).
-            ap₂ (λ b c. b || (c && not (eqb s above))) (le-ltb above (i + s) g) (eq-eqb i 0 z) ∙ span_root z)
-            (lt_or_ge above (i + s)))
-            (λ (l : 0 < i).
-            ap (λ b. ltb above (i + s) || (b && not (eqb s above))) (ne_eqb i 0 (λ q. omega (arith, q))) ∙ or_false (ltb above (i + s)) ∙ span_child l)
+            (λ (z : i ≡ 0). sym (ap not (ne_eqb s above (λ q. omega arith))) ∙ span_root z)
+            (λ (z : 0 < i). sym (lt-ltb above (i + s) l) ∙ span_child z)
             (eq-zero-or-pos i)
+
+        pub span_inside : 0 < i → i + s ≤ above → false ≡ span_fault t i
+        span_inside z l = sym (le-ltb above (i + s) l) ∙ span_child z
 
     -- refusal 6, of a node under one on level d
     module _ (d : ℕ) (e : level t i ≡ d + 1) where
@@ -100,11 +95,11 @@ module _ (t : List ℕ) where
       range_high h eh g = simp (le-ltb (maximum t f) (low t i f) (omega arith), em, eh)
 
     -- refusals 4 to 8 in order
-    module _ (k : ℕ) (e : k ≡ kind t i) where
-      pub fault_later : k ≤ 5 → settled refused blank (node_refusals t i) ≡ settled refused blank (refusals_after_kind t i)
-      unfolding settled kind_fault
-      fault_later l = ap (λ b. cond b (refused 4 i) (settled refused blank (refusals_after_kind t i))) (le-ltb 5 (kind t i) (omega arith))
 
-      pub fault_kind : 5 < k → settled refused blank (node_refusals t i) ≡ refused 4 i
-      unfolding settled kind_fault
-      fault_kind l = ap (λ b. cond b (refused 4 i) (settled refused blank (refusals_after_kind t i))) (lt-ltb 5 (kind t i) (omega arith))
+    pub fault_later : (k d : ℕ) → k ≡ kind t i → k ≤ 5 → d ≡ first_number (refusals_after_kind t i) → d ≡ first_number (node_refusals t i)
+    unfolding settled kind_fault
+    fault_later k d e l h = h ∙ sym (ap (λ b. cond b 4 (first_number (refusals_after_kind t i))) (le-ltb 5 (kind t i) (omega arith)))
+
+    pub fault_kind : (k : ℕ) → k ≡ kind t i → 5 < k → 4 ≡ first_number (node_refusals t i)
+    unfolding settled kind_fault
+    fault_kind k e l = sym (ap (λ b. cond b 4 (first_number (refusals_after_kind t i))) (lt-ltb 5 (kind t i) (omega arith)))

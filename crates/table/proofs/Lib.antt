@@ -3,7 +3,6 @@ pub mod Tree
 pub mod Faults
 pub mod FieldByField
 pub mod Climb
-pub mod NodesAbove
 pub mod Header
 pub mod Good
 pub mod Accepting

@@ -3,8 +3,8 @@ ghost use Rattle.std.specs.Prelude.{◌≡◌};
 ghost use Rattle.table.specs.Tree.{has_level};
 ghost use Rattle.table.specs.WellFormed.{WellFormed};
 
-use crate::open_node::{OpenNode, depth_above};
-use encoding::layout::{LEVELS, count_at};
+use crate::reading::depth_above;
+use encoding::layout::{LEVELS, count_at, span_at};
 
 // Whether some node is on the last level that is allowed: one pass over the nodes, as far as such a one.
 pub fn has_last_level(table: &[u8]) -> bool
@@ -12,16 +12,19 @@ pub fn has_last_level(table: &[u8]) -> bool
     ensures { result ≡ has_level table.now 8 }
 {
     let n = count_at(table);
-    let mut open_nodes = OpenNode::whole(n);
+    // Where the open node of each level ends. Level 0 is the table itself.
+    let mut ends = [n; LEVELS + 1];
     let mut depth = 0;
     for i in 0..n {
-        depth = depth_above(&open_nodes, depth, i);
+        depth = depth_above(&ends, depth, i);
         if LEVELS <= depth + 1 {
             return true;
         }
-        if let Some(node) = OpenNode::opened(table, i) {
+        let span = span_at(table, i);
+        // A node without children opens no level.
+        if 1 < span {
             depth += 1;
-            open_nodes[depth] = node;
+            ends[depth] = i + span;
         }
     }
     false

@@ -3,7 +3,6 @@
 
 pub mod accepted;
 pub mod levels;
-mod open_node;
 pub mod reading;
 
 pub use accepted::Table;

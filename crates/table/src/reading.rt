@@ -1,17 +1,16 @@
 // Reading a table: refusals 1 to 8, in one pass over the nodes.
-ghost use Rattle.std.specs.Prelude.{◌≡◌, not, ◌&&◌, ◌||◌, ◌+◌, ◌^◌, ◌<◌, eqb, ltb, IfOk};
-ghost use Rattle.answer.specs.Answers.{refused, blank, counted};
+ghost use Rattle.std.specs.Prelude.{◌≡◌, ◌||◌, ◌+◌, ◌≤◌, ◌<◌, eqb, ltb, IfOk};
+ghost use Rattle.answer.specs.Answers.{counted};
 ghost use Rattle.answer.specs.Fields.{fields};
-ghost use Rattle.answer.specs.Numbers.{answer_by};
-ghost use Rattle.answer.specs.Refusals.{settled};
+ghost use Rattle.answer.specs.Numbers.{number_or_zero, answer_by};
+ghost use Rattle.answer.specs.Refusals.{first_number};
 ghost use Rattle.encoding.specs.Layout.{count, HeaderHeld, NodeHeld};
 ghost use Rattle.table.specs.Tree.{is_rule, level};
-ghost use Rattle.table.specs.Open.{EndAbove};
-ghost use Rattle.table.specs.Conformance.{conforms};
+ghost use Rattle.table.specs.Open.{deepest, EndAbove};
+ghost use Rattle.table.specs.Conformance.{asks_for_rules, conforms};
 ghost use Rattle.table.specs.Reading.{length_fault, version_fault, count_fault, odd_span, span_fault, range_fault, ranges_fault, card_fault};
 ghost use Rattle.table.specs.Reading.{header_refusals, refusals_after_kind, node_refusals, reading};
 
-use crate::open_node::{OpenNode, depth_above};
 use answer::{Answer, FIELDS, Refusal, Refused};
 use combining::Kind;
 use encoding::layout::{
@@ -50,18 +49,18 @@ fn count_fault(table: &[u8]) -> bool
     odd_count(n) || table.len() != start_of(table, n)
 }
 
-// The refusals of the whole table, 1 to 3.
-fn check_header(table: &[u8]) -> Result<(), Refused>
-    ensures { answer_by (λ _. blank) result ≡ settled refused blank (header_refusals table.now) }
+// The first refusal of the whole table, of 1 to 3.
+fn header_fault(table: &[u8]) -> Option<Refusal>
+    ensures { number_or_zero result ≡ first_number (header_refusals table.now) }
 {
     if length_fault(table) {
-        Err(Refusal::Length.at(0))
+        Some(Refusal::Length)
     } else if version_fault(table) {
-        Err(Refusal::Version.at(0))
+        Some(Refusal::Version)
     } else if count_fault(table) {
-        Err(Refusal::NodeCount.at(0))
+        Some(Refusal::NodeCount)
     } else {
-        Ok(())
+        None
     }
 }
 
@@ -72,14 +71,6 @@ fn odd_span(span: usize, rule: bool) -> bool
     span == 0 || rule && span != 1
 }
 
-// A span past the parent's end, which is `above`, or a root's that is not the count, which is `above` there.
-fn wrong_end(i: usize, span: usize, above: usize) -> bool
-    requires { i + span < 2 ^ 64 }
-    ensures { result ≡ (ltb above (i + span) || (eqb i 0 && not (eqb span above))) }
-{
-    above < i + span || i == 0 && span != above
-}
-
 // Refusal 5; `above` is the parent's end.
 fn span_fault(table: &[u8], i: usize, rule: bool, above: usize) -> bool
     requires node_held { NodeHeld table.now i }
@@ -87,7 +78,16 @@ fn span_fault(table: &[u8], i: usize, rule: bool, above: usize) -> bool
     ensures { result ≡ span_fault table.now i }
 {
     let span = span_at(table, i);
-    odd_span(span, rule) || wrong_end(i, span, above)
+    // Branches, and not one expression of `||` and `&&`, with which a reading takes a tenth longer.
+    if odd_span(span, rule) {
+        true
+    } else if above < i + span {
+        true
+    } else if i == 0 {
+        span != above
+    } else {
+        false
+    }
 }
 
 // Refusal 7 in one field.
@@ -119,45 +119,51 @@ fn card_fault(table: &[u8], i: usize, rule: bool) -> bool
     if rule { card == 0 } else { card != 0 }
 }
 
-// Refusals 5 to 8 of node i, under a node on level depth.
-fn check_after_kind(
-    table: &[u8],
-    i: usize,
-    rule: bool,
-    above: usize,
-    depth: usize,
-) -> Result<(), Refused>
+// The first of refusals 5 to 8 of node i, under a node on level depth.
+fn fault_of(table: &[u8], i: usize, rule: bool, above: usize, depth: usize) -> Option<Refusal>
     requires node_held { NodeHeld table.now i }
     requires rule_value { (rule ≡ is_rule table.now i) × EndAbove table.now i above }
     requires i_value { level table.now i ≡ depth + 1 }
-    ensures { answer_by (λ _. blank) result ≡ settled refused blank (refusals_after_kind table.now i) }
+    ensures { number_or_zero result ≡ first_number (refusals_after_kind table.now i) }
 {
     if span_fault(table, i, rule, above) {
-        Err(Refusal::Span.at(i))
+        Some(Refusal::Span)
     } else if LEVELS <= depth {
-        Err(Refusal::Level.at(i))
+        Some(Refusal::Level)
     } else if ranges_fault(table, i) {
-        Err(Refusal::Range.at(i))
+        Some(Refusal::Range)
     } else if card_fault(table, i, rule) {
-        Err(Refusal::Card.at(i))
+        Some(Refusal::Card)
     } else {
-        Ok(())
+        None
     }
 }
 
-// The refusals of node i, 4 to 8.
-fn check_node(table: &[u8], i: usize, above: usize, depth: usize) -> Result<(), Refused>
+// The first refusal of node i, of 4 to 8.
+fn node_fault(table: &[u8], i: usize, above: usize, depth: usize) -> Option<Refusal>
     requires node_held { NodeHeld table.now i }
     requires end_above { EndAbove table.now i above × (level table.now i ≡ depth + 1) }
-    ensures { answer_by (λ _. blank) result ≡ settled refused blank (node_refusals table.now i) }
+    ensures { number_or_zero result ≡ first_number (node_refusals table.now i) }
 {
     match kind_at(table, i) {
-        Kind::FIRST_APPLICABLE..=Kind::DENY_OVERRIDES => check_after_kind(
-            table, i, false, above, depth,
-        ),
-        Kind::PERMIT_RULE..=Kind::DENY_RULE => check_after_kind(table, i, true, above, depth),
-        _ => Err(Refusal::Kind.at(i)),
+        Kind::FIRST_APPLICABLE..=Kind::DENY_OVERRIDES => fault_of(table, i, false, above, depth),
+        Kind::PERMIT_RULE..=Kind::DENY_RULE => fault_of(table, i, true, above, depth),
+        _ => Some(Refusal::Kind),
     }
+}
+
+// The level of the node right above node i, by climbing from the deepest level that is open: ends says where the open node of each
+// level ends. A node opens at most one level and that is left once, so all climbs together leave no more levels than there are nodes.
+pub(crate) fn depth_above(ends: &[usize; LEVELS + 1], depth: usize, i: usize) -> usize
+    requires { depth ≤ 8 }
+    ensures { (result ≡ deepest ends.now i depth) × (result ≤ depth) }
+{
+    for level in (1..=depth).rev() {
+        if i < ends[level] {
+            return level;
+        }
+    }
+    0
 }
 
 // Whether node i is a rule.
@@ -165,7 +171,18 @@ pub fn rule_at(table: &[u8], i: usize) -> bool
     requires { NodeHeld table.now i }
     ensures { result ≡ is_rule table.now i }
 {
-    kind_at(table, i) > Kind::DENY_OVERRIDES
+    match kind_at(table, i) {
+        Kind::FIRST_APPLICABLE..=Kind::DENY_OVERRIDES => false,
+        _ => true,
+    }
+}
+
+// Whether group i's children must be rules under the profile. It has a child.
+fn asks_for_rules(table: &[u8], i: usize) -> bool
+    requires { NodeHeld table.now i × NodeHeld table.now (i + 1) }
+    ensures { result ≡ asks_for_rules table.now i }
+{
+    kind_at(table, i) != Kind::ONLY_ONE_APPLICABLE && rule_at(table, i + 1)
 }
 
 // Reads a table: the first refusal, or whether the table conforms to the convention profile, that is whether each node is a rule exactly
@@ -174,19 +191,28 @@ pub fn read_conformance(table: &[u8]) -> Result<bool, Refused>
     ensures value { answer_by (λ _. counted (count table.now)) result ≡ reading table.now }
     ensures conforming { IfOk result (λ conforming. conforming ≡ conforms table.now) }
 {
-    check_header(table)?;
+    if let Some(refusal) = header_fault(table) {
+        return Err(refusal.at(0));
+    }
     let n = count_at(table);
-    let mut open_nodes = OpenNode::whole(n);
-    let mut depth = 0;
+    // For each level, where its open node ends, and whether that node's children must be rules. Level 0 is the table itself, whose child
+    // must be a group. Two arrays, and not one of structs, with which a reading that does not ask for conformance takes up to a tenth longer.
+    let mut ends = [n; LEVELS + 1];
+    let mut rules = [false; LEVELS + 1];
     let mut conforming = true;
+    let mut depth = 0;
     for i in 0..n {
-        depth = depth_above(&open_nodes, depth, i);
-        let parent = open_nodes[depth];
-        check_node(table, i, parent.end, depth)?;
-        conforming &= rule_at(table, i) == parent.rules;
-        if let Some(node) = OpenNode::opened(table, i) {
+        depth = depth_above(&ends, depth, i);
+        if let Some(refusal) = node_fault(table, i, ends[depth], depth) {
+            return Err(refusal.at(i));
+        }
+        conforming &= rule_at(table, i) == rules[depth];
+        let span = span_at(table, i);
+        // A node without children opens no level.
+        if 1 < span {
             depth += 1;
-            open_nodes[depth] = node;
+            ends[depth] = i + span;
+            rules[depth] = asks_for_rules(table, i);
         }
     }
     Ok(conforming)

@@ -11,7 +11,7 @@ use Rattle.attaching.specs.Attached.{attached_bytes, fit_refusals}
 use Rattle.attaching.proofs.AttachAnswers.{base_refused, expansion_refused, fit_refused, none_refused, too_short, written}
 use Rattle.std.proofs.Common.{arith}
 use Rattle.attaching.proofs.attaching.attach.Goals as goal
-use Rattle.attaching.proofs.attaching.attach.Goals.{Else-reading-ne0, Else-reading-ne0-2, Else-number-ne0}
+use Rattle.attaching.proofs.attaching.attach.Goals.{Else-reading-ne0, Else-reading-ne0-2, In_default}
 
 base_accepted : (c : Else-reading-ne0) → Accepted c.args.base.now
 base_accepted c = read_accepted c.args.base.now c.read-reading.result c.read-reading.ensures c.if-reading-ne0.false
@@ -23,34 +23,33 @@ both_well_formed : (b : Else-reading-ne0) (e : Else-reading-ne0-2) → WellForme
 both_well_formed b e = (well_formed b.args.base.now (base_accepted b), well_formed e.args.expansion.now (expansion_accepted e))
 
 -- the expansion fits the base
-fits : (c : Else-number-ne0) → Accepted c.args.base.now → Accepted c.args.expansion.now → None (fit_refusals c.args.base.now c.args.expansion.now)
+fits : (c : In_default) → Accepted c.args.base.now → Accepted c.args.expansion.now → None (fit_refusals c.args.base.now c.args.expansion.now)
 fits c b e =
-    none_refused c.args.base.now c.args.expansion.now (length c.args.table.now) b e c.fit_fault-number.result c.fit_fault-number.ensures
-    c.if-number-ne0.false
+    none_refused c.args.base.now c.args.expansion.now (length c.args.table.now) b e c.in_default.ensures
 
 pub returns-then-reading-ne0 : goal.returns-then-reading-ne0
 returns-then-reading-ne0 c =
     let f = read_refused c.args.base.now c.read-reading.result c.read-reading.ensures c.if-reading-ne0.true in
-    let t = base_refused c.args.base.now c.args.expansion.now (length c.args.table.now) c.read-reading.result c.clear_bytes.new.table f.1.0 f.1.1 c.clear_bytes.ensures in
+    let t = base_refused c.args.base.now c.args.expansion.now (length c.args.table.now) c.read-reading.result c.fill.new.table f.1.0 f.1.1 c.fill.ensures in
     record { value = t.0; table_after = t.1 }
 
 pub returns-then-reading-ne0-2 : goal.returns-then-reading-ne0-2
 returns-then-reading-ne0-2 c =
     let s = goal.at.returns-then-reading-ne0-2 c in
     let f = read_refused c.args.expansion.now c.read-reading-2.result c.read-reading-2.ensures c.if-reading-ne0-2.true in
-    let t = expansion_refused c.args.base.now c.args.expansion.now (length c.args.table.now) (base_accepted s.Else-reading-ne0) c.read-reading-2.result c.clear_bytes.new.table f.1.0 f.1.1 c.clear_bytes.ensures in
+    let t = expansion_refused c.args.base.now c.args.expansion.now (length c.args.table.now) (base_accepted s.Else-reading-ne0) c.read-reading-2.result c.fill.new.table f.1.0 f.1.1 c.fill.ensures in
     record { value = t.0; table_after = t.1 }
 
-pub fit_fault-number-requires : goal.fit_fault-number-requires
-fit_fault-number-requires c = let s = goal.at.fit_fault-number-requires c in both_well_formed s.Else-reading-ne0 s.Else-reading-ne0-2
+pub fit_fault-requires : goal.fit_fault-requires
+fit_fault-requires c = let s = goal.at.fit_fault-requires c in both_well_formed s.Else-reading-ne0 s.Else-reading-ne0-2
 
-pub returns-then-number-ne0 : goal.returns-then-number-ne0
-returns-then-number-ne0 c =
-    let s = goal.at.returns-then-number-ne0 c in
+pub returns-in-Some : goal.returns-in-Some
+returns-in-Some c =
+    let s = goal.at.returns-in-Some c in
     let b = base_accepted s.Else-reading-ne0 in
     let e = expansion_accepted s.Else-reading-ne0-2 in
-    let t = fit_refused c.args.base.now c.args.expansion.now (length c.args.table.now) b e c.fit_fault-number.result c.refused.result c.clear_bytes.new.table c.fit_fault-number.ensures
-    c.if-number-ne0.true c.refused.ensures c.clear_bytes.ensures in
+    let t = fit_refused c.args.base.now c.args.expansion.now (length c.args.table.now) b e _ c.from.result c.fill.new.self c.in-Some.ensures
+    ? ? in
     record { value = t.0; table_after = t.1 }
 
 pub attached_size-size-requires : goal.attached_size-size-requires
@@ -61,9 +60,9 @@ returns-then-table-size c =
     let s = goal.at.returns-then-table-size c in
     let b = base_accepted s.Else-reading-ne0 in
     let e = expansion_accepted s.Else-reading-ne0-2 in
-    let t = too_short c.args.base.now c.args.expansion.now (length c.args.table.now) b e (fits s.Else-number-ne0 b e) c.attached_size-size.result
-    c.attached_size-size.ensures.0 c.refused-then-table-size.result c.clear_bytes.new.table (omega (arith, c.clear_bytes.auto.table, c.if-table-size.true))
-    c.refused-then-table-size.ensures c.clear_bytes.ensures in
+    let t = too_short c.args.base.now c.args.expansion.now (length c.args.table.now) b e (fits s.In_default b e) c.attached_size-size.result
+    c.attached_size-size.ensures.0 c.refused-then-table-size.result c.fill.new.table (omega (arith, c.fill.auto.table, c.if-table-size.true))
+    c.refused-then-table-size.ensures c.fill.ensures in
     record { value = t.0; table_after = t.1 }
 
 pub write_attached-requires : goal.write_attached-requires
@@ -71,7 +70,7 @@ write_attached-requires c = let s = goal.at.write_attached-requires c in
     record {
       well_formed = both_well_formed s.Else-reading-ne0 s.Else-reading-ne0-2;
       table_value = (
-        c.clear_bytes.ensures ∙ ap zeros (sym c.clear_bytes.auto.table),
+        c.fill.ensures ∙ ap zeros (sym c.fill.auto.table),
         omega (arith, c.if-table-size.false, c.attached_size-size.ensures.0),
       );
     }
@@ -81,7 +80,7 @@ returns c =
     let s = goal.at.returns c in
     let b = base_accepted s.Else-reading-ne0 in
     let e = expansion_accepted s.Else-reading-ne0-2 in
-    let t = written c.args.base.now c.args.expansion.now (length c.args.table.now) b e (fits s.Else-number-ne0 b e) c.attached_size-size.result
-    c.attached_size-size.ensures.0 c.counted.result c.write_attached.new.table (omega (arith, c.clear_bytes.auto.table, c.if-table-size.false)) c.counted.ensures
-    (c.write_attached.ensures ∙ ap (padded (attached_bytes c.args.base.now c.args.expansion.now)) c.clear_bytes.auto.table) in
+    let t = written c.args.base.now c.args.expansion.now (length c.args.table.now) b e (fits s.In_default b e) c.attached_size-size.result
+    c.attached_size-size.ensures.0 c.counted.result c.write_attached.new.table (omega (arith, c.fill.auto.table, c.if-table-size.false)) c.counted.ensures
+    (c.write_attached.ensures ∙ ap (padded (attached_bytes c.args.base.now c.args.expansion.now)) c.fill.auto.table) in
     record { value = t.0; table_after = t.1 }

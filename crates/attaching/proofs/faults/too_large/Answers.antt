@@ -2,6 +2,7 @@
 use mathlib.Core.Path.{◌∙◌}
 use Rattle.encoding.proofs.Places.{header_held}
 use Rattle.attaching.proofs.FitFaults.{too_many, by_levels}
+use borrow.Author.Tests.{lt-ltb}
 use Rattle.std.proofs.Common.{arith}
 use Rattle.attaching.proofs.faults.too_large.Goals as goal
 
@@ -12,7 +13,7 @@ pub count_at-requires-2 : goal.count_at-requires-2
 count_at-requires-2 c = header_held c.args.expansion.now c.requires.well_formed.1.records
 
 pub returns-then-count_at-gt-NODES : goal.returns-then-count_at-gt-NODES
-returns-then-count_at-gt-NODES c = too_many c.args.base.now c.args.expansion.now c.requires.well_formed.0 c.requires.well_formed.1 c.requires.base_value
+returns-then-count_at-gt-NODES c = lt-ltb _ _ c.if-count_at-gt-NODES.true ∙ too_many c.args.base.now c.args.expansion.now c.requires.well_formed.0 c.requires.well_formed.1 c.requires.base_value
     (omega (arith, c.count_at.ensures.0, c.count_at-2.ensures.0, c.if-count_at-gt-NODES.true))
 
 pub returns-else-count_at-gt-NODES : goal.returns-else-count_at-gt-NODES

@@ -10,6 +10,7 @@ use Rattle.table.specs.Reading.{table_refusals, Accepted}
 use Rattle.table.specs.WellFormed.{WellFormed}
 use Rattle.table.proofs.Accepting.{read_refused, found_accepted, found_refused, found_conforms}
 use Rattle.table.proofs.AcceptedIsWellFormed.{well_formed}
+use Rattle.ruling.specs.Ruling.{ruled_answer}
 use Rattle.ruling.proofs.InTwoParts.{turned_away, asked_then}
 use Rattle.standard.specs.Profile.{profile_refusals, standard_refusals}
 use Rattle.standard.proofs.Accepting.{profile_passes, profile_refuses}
@@ -65,6 +66,6 @@ returns c =
     let r =
     asked_then (standard_refusals t) t c.args.request.subjects c.args.request.others (length c.args.cards.now) c.for_subjects.result
     c.rule_accepted-answer.new.cards s (length c.clear.new.list)
-    c.clear.auto.list c.rule_accepted-answer.result c.rule_accepted-answer.ensures.value c.for_subjects.ensures
+    c.clear.auto.list (ruled_answer c.rule_accepted-answer.result) c.rule_accepted-answer.ensures.value c.for_subjects.ensures
     c.rule_accepted-answer.ensures.cards_after in
     record { value = r.0; cards_after = r.1 }

@@ -1,11 +1,11 @@
--- `table::open_node::asks_for_rules` meets its contract.
+-- `table::reading::asks_for_rules` meets its contract.
 use borrow.Author.Tests.{eq-eqb, ne_eqb}
 use Rattle.combining.specs.Kinds.{only_one_applicable_kind}
 use Rattle.encoding.specs.Layout.{kind}
 use Rattle.table.specs.Conformance.{asks_for_rules}
 use Rattle.encoding.proofs.Places.{number_small}
 use Rattle.std.proofs.Common.{◌+◌, arith}
-use Rattle.table.proofs.open_node.asks_for_rules.Goals as goal
+use Rattle.table.proofs.reading.asks_for_rules.Goals as goal
 
 pub overflow_add-i : goal.overflow_add-i
 overflow_add-i c = omega (arith, number_small c.args.table.now (c.args.i + 1) c.requires.1)
