@@ -51,7 +51,7 @@ module _ (b e : List ℕ) (n : ℕ) where
           t ≡ zeros n → Settled a t
       fit_refused refusal a t ek ea z =
           let f = number_first (λ number place. number) (λ m. m) (λ number place. refl) 0 refl (fit_refusals b e) (number_of refusal) ek
-              (λ z. omega (arith, z, number_positive refusal)) in
+          (λ z. omega (arith, z, number_positive refusal)) in
           let at = all_first (λ r. r.place ≡ 0) (fit_refusals b e) (refl, (refl, (refl, tt))) f.1.0 in
           turned_away a t (after_both (first_in (fit_refusals b e) (bytes_refusal b e n ∷ []) f.1.0)) (ea ∙ ap₂ refused f.1.1 (sym at)) z
 
