@@ -25,7 +25,6 @@ use Rattle.entering.specs.Walking.{Walks}
 use Rattle.entering.proofs.WalkedBefore.{walks_as}
 use Rattle.entering.proofs.Levels.{Level, walk_level, under_value}
 use Rattle.std.specs.Prelude.{Option, Some}
-use Rattle.entering.specs.declared.finding.Step.{Step}
 use Rattle.building.specs.Walked.{walk_by, Near}
 use Rattle.building.proofs.Remembered.{walked_near}
 
@@ -97,9 +96,9 @@ module _ {t : List ℕ} {nodes : Set} {field v until : ℕ} {here : Set} (r : Va
   walk_value : (xs : Entries) → walk_by t (field + 1) (has here) xs ≡ under_value (level_by t field (has nodes)) v xs
   walk_value xs = ap (λ f. walk_by t f (has here) xs) (add-one field) ∙ ap (λ c. walk_by t (suc field) c xs) (λ k i. r.left i k)
 
-  pub walks_value : {Given Right : Entries → Type 0} {n : ℕ} {d index : List ℕ} {step : Option Step} →
-      Walks (walk_by t (field + 1) (has here)) Given Right n d index step →
-      Walks (under_value (level_by t field (has nodes)) v) Given Right n d index step
+  pub walks_value : {Given Right : Entries → Type 0} {n : ℕ} {d index : List ℕ} {end : ℕ} {place : Option ℕ} →
+      Walks (walk_by t (field + 1) (has here)) Given Right n d index end place →
+      Walks (under_value (level_by t field (has nodes)) v) Given Right n d index end place
   walks_value w = walks_as w walk_value
 
   -- the child of a run is the neighbour of the next value

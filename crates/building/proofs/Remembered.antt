@@ -1,5 +1,5 @@
 -- What is remembered of walks by a set of nodes.
-use mathlib.Core.Path.{◌≡◌, sym, ap, ◌∙◌, subst}
+use mathlib.Core.Path.{◌≡◌, sym, ◌∙◌, subst}
 use mathlib.Core.List.{List}
 use Prim.Native.Nat.{ℕ}
 use lib.ListN.{drop, set, replicate}
@@ -12,7 +12,6 @@ use Rattle.diagram.specs.Walk.{Entries}
 use Rattle.entering.specs.Walking.{Held, Walks}
 use Rattle.entering.proofs.WalkedBefore.{Grows, walked_stays, stays_on, remembered_first, remembered_on, remembered_more, walks_from, walks_new}
 use Rattle.building.specs.Walked.{walk_by, StaysBy, SlotStays, Remembers, Near, RemembersNear}
-use Rattle.entering.specs.declared.finding.Step.{Step}
 use Rattle.building.specs.declared.remembering.Known.{Known}
 use Rattle.building.specs.declared.remembering.Seen.{Seen}
 
@@ -40,15 +39,15 @@ module _ (t : List ℕ) where
 
 -- A walk that was not remembered was walked, from entries about which what is remembered and the neighbour are right: its place is remembered.
 pub walked_noted : (t : List ℕ) (field : ℕ) (nodes : Set) (near : Option Known) (seen seen' : List (Option Seen)) {n : ℕ} {d index d' index' : List ℕ}
-    {start : ℕ} {step : Step} →
-    Walks (walk_by t field (has nodes)) (Held (Remembers t seen) d index start) (Remembers t seen') n d' index' (Some step) →
-    (slot : ℕ) {seen'' : List (Option Seen)} → seen'' ≡ set seen' slot (Some (record { nodes = nodes; field = field; place = step.place })) →
-    Walks (walk_by t field (has nodes)) (Held (RemembersNear t seen field near) d index start) (Remembers t seen'') n d' index' (Some step)
-walked_noted t field nodes near seen seen' {step} w slot {seen''} e =
+    {start end place : ℕ} →
+    Walks (walk_by t field (has nodes)) (Held (Remembers t seen) d index start) (Remembers t seen') n d' index' end (Some place) →
+    (slot : ℕ) {seen'' : List (Option Seen)} → seen'' ≡ set seen' slot (Some (record { nodes = nodes; field = field; place = place })) →
+    Walks (walk_by t field (has nodes)) (Held (RemembersNear t seen field near) d index start) (Remembers t seen'') n d' index' end (Some place)
+walked_noted t field nodes near seen seen' {place} w slot {seen''} e =
     walks_new (walks_from w (λ es h. (h.0, h.1.0)))
-    (λ es s is at r.
+    (λ es p is at r.
     let xs = (walk_by t field (has nodes) es).entries in
-    let same : s ≡ step = cc in
+    let same : place ≡ p = cc in
     subst (λ l. Remembers t l xs) (sym e)
-    (remembered_more None (SlotStays t) seen' xs slot (Some (record { nodes = nodes; field = field; place = step.place })) r
-    (walked_near t field nodes step.place es (sym (ap (λ x. x.place) same) ∙ at))))
+    (remembered_more None (SlotStays t) seen' xs slot (Some (record { nodes = nodes; field = field; place = place })) r
+    (walked_near t field nodes place es (same ∙ at))))

@@ -31,7 +31,7 @@ use Rattle.diagram.proofs.WithinAsWalked.{within_length}
 use Rattle.entering.specs.Index.{Indexed}
 use Rattle.entering.specs.Laid.{NoRoom}
 use Rattle.std.specs.Prelude.{Option, Some, None}
-use Rattle.entering.specs.declared.finding.Step.{Step}
+use Rattle.building.specs.declared.walking.Root.{Root}
 use Rattle.entering.specs.Walking.{Held, Walks}
 use Rattle.entering.proofs.LaidOut.{none_laid}
 use Rattle.entering.proofs.WalkedBefore.{walks_from, walks_as, walks_new}
@@ -61,19 +61,17 @@ module _ (t : List ℕ) (w : WellFormed t) (nodes : Set) (all : Has nodes (λ i.
       (λ q v. ruling_is t q (has nodes) (within_length (maxima t) q v ∙ maxima_length t) all_in w)
 
   -- all fields were walked, in a cleared diagram of n places, from empty slots
-  pub all_walked : (n slots : ℕ) (d index : List ℕ) {d' index' : List ℕ} {Right : Entries → Type 0} {step : Option Step} → d ≡ zeros n →
+  pub all_walked : (n slots : ℕ) (d index : List ℕ) {d' index' : List ℕ} {Right : Entries → Type 0} {end : ℕ} {place : Option ℕ} → d ≡ zeros n →
       header fields ≤ n → Indexed [] index →
-      Walks (walk_by t 0 (has nodes)) (Held (Remembers t (replicate slots None)) d index (header fields)) Right n d' index' step →
-      AllWalked t n d' step
-  all_walked n slots d index {index'} zeroed l x walked = (
-    index',
-    walks_new
-        (walks_from (walks_as walked walk_is)
-        (λ es e.
-        subst (Held (Remembers t (replicate slots None)) d index (header fields)) (sym e)
-        (none_laid d index n zeroed l x, none_remembered t [] slots)))
-        (λ es s is at r. tt),
-  )
+      Walks (walk_by t 0 (has nodes)) (Held (Remembers t (replicate slots None)) d index (header fields)) Right n d' index' end place →
+      Walks (walk_all t) (λ es. es ≡ []) (λ es. Unit {0}) n d' index' end place
+  all_walked n slots d index zeroed l x walked =
+      walks_new
+      (walks_from (walks_as walked walk_is)
+      (λ es e.
+      subst (Held (Remembers t (replicate slots None)) d index (header fields)) (sym e)
+      (none_laid d index n zeroed l x, none_remembered t [] slots)))
+      (λ es p is at r. tt)
 
 module _ (t : List ℕ) where
   -- the diagram is its header and the entries of the walk
@@ -111,11 +109,11 @@ module _ (t : List ℕ) (n : ℕ) (r : Accepted t) where
     -- there was no room
     pub walk_full : {d' : List ℕ} → AllWalked t (length d) d' None → (a : Answer) (e : List ℕ) → a ≡ refused 11 0 → e ≡ zeros n → Settled t n a e
     walk_full w a e ea z =
-        let none : NoRoom (walk_all t []) (length d) = w.1.outcome [] refl in
+        let none : NoRoom (walk_all t []) (length d) = w.2.outcome [] refl in
         too_large_lem t n r a e (no_room t n (omega (arith, diagram_length t, places))) ea z
 
     -- the header is written before the entries
-    pub walk_done : {d' : List ℕ} {root : Step} → AllWalked t (length d) d' (Some root) → (a : Answer) (e : List ℕ) → length d' ≡ length d → a ≡ counted root.end →
+    pub walk_done : {d' : List ℕ} {root : Root} → AllWalked t (length d) d' (Some root) → (a : Answer) (e : List ℕ) → length d' ≡ length d → a ≡ counted root.end →
         e ≡ sets d' 0 (head_of root.end root.place t) → Settled t n a e
     walk_done {d'} {root} w a e same ea ee =
         let s = (w.1.outcome [] refl).0 in

@@ -16,7 +16,6 @@ use Rattle.diagram.specs.Layout as diagram
 use Rattle.diagram.specs.Entries.{terminal}
 use Rattle.diagram.specs.Walk.{Entries, enter}
 use Rattle.std.specs.Prelude.{Option}
-use Rattle.entering.specs.declared.finding.Step.{Step}
 use Rattle.entering.specs.Laid.{Laid, Standing}
 use Rattle.entering.proofs.NumbersWritten.{start_is}
 
@@ -36,13 +35,13 @@ module _ (t : List ℕ) (a : ℕ → Bool) (list stored : List ℕ) (decision co
       ap (λ n. record { decision = n; cards = take count stored }) ed ∙ ap (λ ns. record { decision = (meaning a t).decision; cards = ns }) cs
 
   -- what was entered for the one ruling was entered for the other, which is the same
-  pub ruling_entered : (d index d' index' : List ℕ) (start : ℕ) (step : Option Step) →
+  pub ruling_entered : (d index d' index' : List ℕ) (start end : ℕ) (place : Option ℕ) →
       ((es : Entries) → Laid es d index start →
-      Standing (enter (diagram.header fields) es (terminal (record { decision = decision; cards = take count stored }))) (length d) d' index' step) →
+      Standing (enter (diagram.header fields) es (terminal (record { decision = decision; cards = take count stored }))) (length d) d' index' end place) →
       (es : Entries) → Laid es d index start →
-      Standing (enter (diagram.header fields) es (terminal (meaning a t))) (length d) d' index' step
-  ruling_entered d index d' index' start step stands es l =
-      subst (λ r. Standing (enter (diagram.header fields) es (terminal r)) (length d) d' index' step) ruling_stored (stands es l)
+      Standing (enter (diagram.header fields) es (terminal (meaning a t))) (length d) d' index' end place
+  ruling_entered d index d' index' start end place stands es l =
+      subst (λ r. Standing (enter (diagram.header fields) es (terminal r)) (length d) d' index' end place) ruling_stored (stands es l)
 
 -- the numbers of the header: the places used, the place of the root and the maxima
 abbrev pub head_of : ℕ → ℕ → List ℕ → List ℕ

@@ -9,9 +9,9 @@ use Rattle.ruling.specs.Ruling.{groups}
 use Rattle.applying.specs.Members.{ruling_from}
 use Rattle.diagram.specs.Walk.{Entries, Entered, walk}
 use Rattle.entering.specs.Walking.{Stays, Remembered, Walks}
-use Rattle.entering.specs.declared.finding.Step.{Step}
 use Rattle.building.specs.declared.remembering.Known.{Known}
 use Rattle.building.specs.declared.remembering.Seen.{Seen}
+use Rattle.building.specs.declared.walking.Root.{Root}
 
 -- the walk of the fields from `field` on, where the fields before it leave the nodes a
 abbrev pub walk_by : List ℕ → ℕ → (ℕ → Bool) → Entries → Entered
@@ -48,5 +48,6 @@ abbrev pub walk_all : List ℕ → Entries → Entered
 walk_all t es = walk fields (maxima t) (groups t) es
 
 -- The walk of all fields, in a cleared diagram of n places.
-abbrev pub AllWalked : List ℕ → ℕ → List ℕ → Option Step → Type 0
-AllWalked t n d step = (index : List ℕ) × Walks (walk_all t) (λ es. es ≡ []) (λ es. Unit {0}) n d index step
+abbrev pub AllWalked : List ℕ → ℕ → List ℕ → Option Root → Type 0
+AllWalked t n d None = (index : List ℕ) × (end : ℕ) × Walks (walk_all t) (λ es. es ≡ []) (λ es. Unit {0}) n d index end None
+AllWalked t n d (Some root) = (index : List ℕ) × Walks (walk_all t) (λ es. es ≡ []) (λ es. Unit {0}) n d index root.end (Some root.place)

@@ -23,26 +23,40 @@ use diagram::HEADER;
 use encoding::layout::maximum_at;
 use entering::edges::Edges;
 use entering::writing::MOST_CARDS;
-use entering::{SLOTS, Step, enter_node, enter_terminal};
+use entering::{Index, SLOTS};
 use sets::Set;
+
+// What a walk keeps beside the diagram: the index of the entries, what was walked before, and the open edges of each level.
+#[derive(Drop)]
+struct Memory {
+    index: Index,
+    seen: [Option<Seen>; SEEN],
+    edges: [Edges; FIELDS],
+}
+
+// What was walked: the place after the last entry, and the place of the root.
+#[derive(Clone, Copy)]
+pub(crate) struct Root {
+    pub end: usize,
+    pub place: usize,
+}
 
 // Enters the terminal of what the groups give where the nodes of a set apply.
 fn enter_ruling(
     table: &[u8],
     applying: Set,
     diagram: &mut [u16],
-    end: usize,
-    index: &mut [u16; SLOTS],
-) -> Option<Step>
+    index: &mut Index,
+) -> Option<usize>
     requires well_formed { WellFormed table.now × Closed table.now (has applying) }
-    requires room { Room (length diagram.old) end }
-    ensures bounded { Bounded diagram.old index.old diagram.new index.new result }
-    ensures standing { (es : Entries) → Laid es diagram.old index.old end → Standing (enter (header fields) es (terminal (meaning (has applying) table.now))) (length diagram.old) diagram.new index.new result }
+    requires room { Room (length diagram.old) index.old.end }
+    ensures bounded { Bounded diagram.old index.old.slots index.old.end diagram.new index.new.slots index.new.end result }
+    ensures standing { (es : Entries) → Laid es diagram.old index.old.slots index.old.end → Standing (enter (header fields) es (terminal (meaning (has applying) table.now))) (length diagram.old) diagram.new index.new.slots index.new.end result }
 {
     let mut cards = [0u16; MOST_CARDS];
     let ruled = rule_set(table, applying, &mut cards);
     let count = ruled.count;
-    enter_terminal(diagram, end, index, ruled.decision, &cards[..count])
+    index.enter_terminal(diagram, ruled.decision, &cards[..count])
 }
 
 // Walks the fields from one on, unless that was done with the same set: by the neighbour before, or remembered from earlier.
@@ -54,32 +68,27 @@ fn walk_once(
     possible: Set,
     near: Option<Known>,
     diagram: &mut [u16],
-    end: usize,
-    index: &mut [u16; SLOTS],
-    seen: &mut [Option<Seen>; SEEN],
-    edges: &mut [Edges; FIELDS],
-) -> Option<Step>
+    memory: &mut Memory,
+) -> Option<usize>
     requires well_formed { WellFormed table.now × Filled table.now sets.now × Closed table.now (has possible) }
-    requires room { Room (length diagram.old) end × (field ≤ fields) × IfSome near (λ known. known.place < most_places) }
-    ensures walks { Walks (walk_by table.now field (has possible)) (Held (RemembersNear table.now seen.old field near) diagram.old index.old end) (Remembers table.now seen.new) (length diagram.old) diagram.new index.new result }
-    ensures edges_kept { EdgesKept field edges.old edges.new }
+    requires room { Room (length diagram.old) memory.old.index.end × (field ≤ fields) × IfSome near (λ known. known.place < most_places) }
+    ensures walks { Walks (walk_by table.now field (has possible)) (Held (RemembersNear table.now memory.old.seen field near) diagram.old memory.old.index.slots memory.old.index.end) (Remembers table.now memory.new.seen) (length diagram.old) diagram.new memory.new.index.slots memory.new.index.end result }
+    ensures edges_kept { EdgesKept field memory.old.edges memory.new.edges }
 {
     if let Some(place) = recall_near(near, possible) {
-        return Some(Step { end, place });
+        return Some(place);
     }
     let slot = slot_of(possible, field);
-    if let Some(place) = recall(seen, slot, possible, field) {
-        return Some(Step { end, place });
+    if let Some(place) = recall(&memory.seen, slot, possible, field) {
+        return Some(place);
     }
-    let step = walk(
-        table, sets, field, possible, diagram, end, index, seen, edges,
-    )?;
-    remember(seen, slot, possible, field, step.place);
-    Some(step)
+    let place = walk(table, sets, field, possible, diagram, memory)?;
+    remember(&mut memory.seen, slot, possible, field, place);
+    Some(place)
 }
 
 // Walks the fields from one on, where the fields before it leave a set of nodes possible: everything under a run of values
-// is entered, then the node itself. The open edges of each level stand in `edges`.
+// is entered, then the node itself.
 #[cycle(walk_walk_once)]
 fn walk(
     table: &[u8],
@@ -87,53 +96,36 @@ fn walk(
     field: usize,
     possible: Set,
     diagram: &mut [u16],
-    end: usize,
-    index: &mut [u16; SLOTS],
-    seen: &mut [Option<Seen>; SEEN],
-    edges: &mut [Edges; FIELDS],
-) -> Option<Step>
+    memory: &mut Memory,
+) -> Option<usize>
     requires well_formed { WellFormed table.now × Filled table.now sets.now × Closed table.now (has possible) }
-    requires room { Room (length diagram.old) end × (field ≤ fields) }
-    ensures walks { Walks (walk_by table.now field (has possible)) (Held (Remembers table.now seen.old) diagram.old index.old end) (Remembers table.now seen.new) (length diagram.old) diagram.new index.new result }
-    ensures edges_kept { EdgesKept field edges.old edges.new }
+    requires room { Room (length diagram.old) memory.old.index.end × (field ≤ fields) }
+    ensures walks { Walks (walk_by table.now field (has possible)) (Held (Remembers table.now memory.old.seen) diagram.old memory.old.index.slots memory.old.index.end) (Remembers table.now memory.new.seen) (length diagram.old) diagram.new memory.new.index.slots memory.new.index.end result }
+    ensures edges_kept { EdgesKept field memory.old.edges memory.new.edges }
 {
     if field == FIELDS {
-        return enter_ruling(table, possible, diagram, end, index);
+        return enter_ruling(table, possible, diagram, &mut memory.index);
     }
-    let most = maximum_at(table, field) as usize;
+    let most = usize::from(maximum_at(table, field));
     let mut near = None;
-    let mut at = end;
-    edges[field].clear();
+    memory.edges[field].clear();
     let mut value: usize = 0;
     // A `while`: each step is as long as the run of values that starts there.
     while value <= most {
         let here = possible.meet(set_at(&sets[field], value));
         let until = run_end(&sets[field], value);
-        let under = walk_once(
-            table,
-            sets,
-            field + 1,
-            here,
-            near,
-            diagram,
-            at,
-            index,
-            seen,
-            edges,
-        )?;
-        at = under.end;
-        near = Some(Known {
-            nodes: here,
-            place: under.place,
-        });
-        edges[field].extend(until as u16, under.place as u16);
+        let place = walk_once(table, sets, field + 1, here, near, diagram, memory)?;
+        near = Some(Known { nodes: here, place });
+        memory.edges[field].extend(until as u16, place as u16);
         value = until + 1;
     }
-    enter_node(diagram, at, index, field as u16 + 1, &edges[field])
+    memory
+        .index
+        .enter_node(diagram, field as u16 + 1, &memory.edges[field])
 }
 
 // Walks all fields, in a cleared diagram.
-pub(crate) fn walk_all(table: &[u8], diagram: &mut [u16]) -> Option<Step>
+pub(crate) fn walk_all(table: &[u8], diagram: &mut [u16]) -> Option<Root>
     requires well_formed { WellFormed table.now }
     requires room { Room (length diagram.old) (header fields) }
     requires diagram_value { diagram.old ≡ zeros (length diagram.old) }
@@ -145,18 +137,17 @@ pub(crate) fn walk_all(table: &[u8], diagram: &mut [u16]) -> Option<Step>
     };
     let mut sets = [[run; VALUES]; FIELDS];
     fill(table, &mut sets);
-    let mut index = [0u16; SLOTS];
-    let mut seen: [Option<Seen>; SEEN] = [None; SEEN];
-    let mut edges = [Edges::none(); FIELDS];
-    walk(
-        table,
-        &sets,
-        0,
-        Set::full(),
-        diagram,
-        HEADER,
-        &mut index,
-        &mut seen,
-        &mut edges,
-    )
+    let mut memory = Memory {
+        index: Index {
+            end: HEADER,
+            slots: [0; SLOTS],
+        },
+        seen: [None; SEEN],
+        edges: [Edges::none(); FIELDS],
+    };
+    let place = walk(table, &sets, 0, Set::full(), diagram, &mut memory)?;
+    Some(Root {
+        end: memory.index.end,
+        place,
+    })
 }

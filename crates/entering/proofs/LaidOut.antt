@@ -16,7 +16,6 @@ use Rattle.diagram.specs.Walk.{Entries, joined, Entered, enter}
 use Rattle.diagram.proofs.EntryPlaces.{joined_append}
 use Rattle.diagram.proofs.EntriesGrow.{by_entering}
 use Rattle.std.specs.Prelude.{Option, Some}
-use Rattle.entering.specs.declared.finding.Step.{Step}
 use Rattle.entering.specs.declared.finding.Found.TheVariants.{Equal}
 use Rattle.entering.specs.Index.{Indexed, noted, NoneFound, Finding}
 use Rattle.entering.specs.Laid.{IsEntry, AllEntries, Laid, NoRoom, Within, NewAtEnd, Settled, Settling, Stood, Standing}
@@ -187,24 +186,24 @@ module _ (es : Entries) (d index : List ℕ) (end : ℕ) (e : List ℕ) (l : Lai
       }
 
 -- The entry e was looked for, as the part of a slice, among those that stand in d.
-pub record Sought (d index : List ℕ) (end : ℕ) (e after : List ℕ) (step : Step) : Type 0 where
+pub record Sought (d index : List ℕ) (end : ℕ) (e after : List ℕ) (next place : ℕ) : Type 0 where
   pub entry : IsEntry e
   pub part : List ℕ
   pub same : part ≡ e
-  pub within : Within (length d) step
-  pub new : NewAtEnd end (length part) (Some step)
-  pub settles : (es : Entries) → Laid es d index end → Settling (enter (header fields) es part) (length d) after (Some step)
+  pub within : Within (length d) next place
+  pub new : NewAtEnd end (length part) next (Some place)
+  pub settles : (es : Entries) → Laid es d index end → Settling (enter (header fields) es part) (length d) after next (Some place)
 
 -- Entering an entry leaves `now`, whether it is a terminal or a node.
-module _ {d index : List ℕ} {end : ℕ} {e after : List ℕ} {step : Step} (s : Sought d index end e after step) where
+module _ {d index : List ℕ} {end : ℕ} {e after : List ℕ} {next place : ℕ} (s : Sought d index end e after next place) where
   abbrev Enters : List ℕ → Type 0
-  Enters now = (es : Entries) → Laid es d index end → Standing (enter (header fields) es e) (length d) now after (Some step)
+  Enters now = (es : Entries) → Laid es d index end → Standing (enter (header fields) es e) (length d) now after next (Some place)
 
   -- where an equal entry stands, the diagram is left as it is
-  pub is_left : step.place < end → Enters d
-  is_left h = λ es l. nothing_written es d index end e l s.part s.same after step.end step.place (s.settles es l) h
+  pub is_left : place < end → Enters d
+  is_left h = λ es l. nothing_written es d index end e l s.part s.same after next place (s.settles es l) h
 
   -- else the entry is written into the rest of the diagram
-  pub is_written : end ≤ step.place → {rest : List ℕ} → rest ≡ sets (mid_of end (length d - end) d) 0 e → Enters (put_mid end (length d - end) d rest)
+  pub is_written : end ≤ place → {rest : List ℕ} → rest ≡ sets (mid_of end (length d - end) d) 0 e → Enters (put_mid end (length d - end) d rest)
   is_written h {rest} r =
-      λ es l. one_written es d index end e l s.part s.same after step.end step.place (s.settles es l) s.entry (s.new h) s.within.0.1 rest r
+      λ es l. one_written es d index end e l s.part s.same after next place (s.settles es l) s.entry (s.new h) s.within.0.1 rest r

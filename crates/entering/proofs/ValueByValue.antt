@@ -15,10 +15,9 @@ use Rattle.diagram.specs.Walk.{Entries, Entered, enter, extend, Open, below, giv
 use Rattle.diagram.proofs.EntriesGrow.{enter_begins}
 use Rattle.diagram.proofs.DiagramGoesByRulingsWithin.{Alike}
 use Rattle.entering.specs.declared.edges.Edges.{Edges}
-use Rattle.entering.specs.declared.finding.Step.{Step}
 use Rattle.entering.specs.Edges.{edges_in, edges_of, no_edges, EdgesKept}
 use Rattle.entering.specs.Laid.{Laid, Room, NoRoom, Bounded, Standing}
-use Rattle.entering.specs.Walking.{Held, Leaving, StepWithin, Walks}
+use Rattle.entering.specs.Walking.{Held, Leaving, EndsWithin, Walks}
 use Rattle.entering.proofs.WalkedBefore.{Grows}
 use Rattle.entering.proofs.Levels.{Level, walk_level, under_value, opened, opened_run, walk_level_lem, value_places}
 
@@ -64,34 +63,35 @@ before_first {level} {rows} own deep room long none held =
       open_edges = λ es g. ap edges_of is ∙ ap (edges_in own.last own.child) none;
     }
 
-within_of : (d index d' index' : List ℕ) (step : Option Step) → Bounded d index d' index' step → StepWithin (length d) step
-within_of d index d' index' None b = tt
-within_of d index d' index' (Some s) b = b
+within_of : (d index : List ℕ) (end : ℕ) (d' index' : List ℕ) (end' : ℕ) (place : Option ℕ) → Bounded d index end d' index' end' place →
+    EndsWithin (length d) end' place
+within_of d index end d' index' end' None b = tt
+within_of d index end d' index' end' (Some p) b = b
 
 -- A walk that enters the entry e after what it entered before, and so ends.
 walks_entry : (walked : Entries → Entered) (earlier : Entries → Entries) {Given Right : Entries → Type 0} (e : List ℕ) {d index d' index' : List ℕ}
-    {at : ℕ} {step : Option Step} → Grows Right → ((es : Entries) → Given es → Held Right d index at (earlier es)) →
-    ((es : Entries) → Given es → walked es ≡ enter (header fields) (earlier es) e) → Bounded d index d' index' step →
-    ((es : Entries) → Laid es d index at → Standing (enter (header fields) es e) (length d) d' index' step) →
-    Walks walked Given Right (length d) d' index' step
-walks_entry walked earlier {Given} {Right} e {d} {index} {d'} {index'} {at} {step} grows held is bounds stands =
+    {at : ℕ} {end : ℕ} {place : Option ℕ} → Grows Right → ((es : Entries) → Given es → Held Right d index at (earlier es)) →
+    ((es : Entries) → Given es → walked es ≡ enter (header fields) (earlier es) e) → Bounded d index at d' index' end place →
+    ((es : Entries) → Laid es d index at → Standing (enter (header fields) es e) (length d) d' index' end place) →
+    Walks walked Given Right (length d) d' index' end place
+walks_entry walked earlier {Given} {Right} e {d} {index} {d'} {index'} {at} {end} {place} grows held is bounds stands =
     record {
-      within = within_of d index d' index' step bounds;
+      within = within_of d index at d' index' end place bounds;
       outcome = λ es g.
-          subst (λ x. Leaving Right x (length d) d' index' step) (sym (is es g))
-          (by (earlier es) (held es g).1 step (stands (earlier es) (held es g).0));
+          subst (λ x. Leaving Right x (length d) d' index' end place) (sym (is es g))
+          (by (earlier es) (held es g).1 place (stands (earlier es) (held es g).0));
     }
   where
-    by : (xs : Entries) → Right xs → (r : Option Step) → Standing (enter (header fields) xs e) (length d) d' index' r →
-        Leaving Right (enter (header fields) xs e) (length d) d' index' r
+    by : (xs : Entries) → Right xs → (r : Option ℕ) → Standing (enter (header fields) xs e) (length d) d' index' end r →
+        Leaving Right (enter (header fields) xs e) (length d) d' index' end r
     by xs r None s = s
     by xs r (Some t) s = (s, grows xs (enter (header fields) xs e).entries (enter_begins e (header fields) xs) r)
 
 -- after the last field
-pub walks_terminal : (f : List ℕ → Ruling) {Right : Entries → Type 0} {d index d' index' : List ℕ} {start : ℕ} {step : Option Step} →
-    Grows Right → Bounded d index d' index' step →
-    ((es : Entries) → Laid es d index start → Standing (enter (header fields) es (terminal (f []))) (length d) d' index' step) →
-    Walks (walk fields [] f) (Held Right d index start) Right (length d) d' index' step
+pub walks_terminal : (f : List ℕ → Ruling) {Right : Entries → Type 0} {d index d' index' : List ℕ} {start : ℕ} {end : ℕ} {place : Option ℕ} →
+    Grows Right → Bounded d index start d' index' end place →
+    ((es : Entries) → Laid es d index start → Standing (enter (header fields) es (terminal (f []))) (length d) d' index' end place) →
+    Walks (walk fields [] f) (Held Right d index start) Right (length d) d' index' end place
 unfolding walk
 walks_terminal f grows bounds stands = walks_entry (walk fields [] f) (λ es. es) (terminal (f [])) grows (λ es g. g) (λ es g. refl) bounds stands
 
@@ -106,16 +106,16 @@ module _ {level : Level} {Given Right : Entries → Type 0} {n : ℕ} {rows₀ :
   under_it es = under_value level v (entries_at es)
 
   -- what is left once value v was walked, as of the values below it
-  value_leaves : {Right' : Entries → Type 0} {d' index' : List ℕ} (step : Option Step) →
-      Walks (under_value level v) (Held Right d index at) Right' (length d) d' index' step →
-      (es : Entries) → Given es → Leaving Right' (under_it es) n d' index' step
-  value_leaves {Right'} {d'} {index'} step w es g =
-      subst (λ k. Leaving Right' (under_it es) k d' index' step) b.same_length (w.outcome (entries_at es) (b.held es g))
+  value_leaves : {Right' : Entries → Type 0} {d' index' : List ℕ} {end : ℕ} (place : Option ℕ) →
+      Walks (under_value level v) (Held Right d index at) Right' (length d) d' index' end place →
+      (es : Entries) → Given es → Leaving Right' (under_it es) n d' index' end place
+  value_leaves {Right'} {d'} {index'} {end} place w es g =
+      subst (λ k. Leaving Right' (under_it es) k d' index' end place) b.same_length (w.outcome (entries_at es) (b.held es g))
 
   -- there was no room for what is under value v
-  pub value_full : {Right' : Entries → Type 0} {d' index' : List ℕ} →
-      Walks (under_value level v) (Held Right d index at) Right' (length d) d' index' None → v ≤ level.most →
-      Walks (walk_level level) Given Right' n d' index' None
+  pub value_full : {Right' : Entries → Type 0} {d' index' : List ℕ} {end : ℕ} →
+      Walks (under_value level v) (Held Right d index at) Right' (length d) d' index' end None → v ≤ level.most →
+      Walks (walk_level level) Given Right' n d' index' end None
   value_full w more =
       record {
         within = tt;
@@ -125,18 +125,18 @@ module _ {level : Level} {Given Right : Entries → Type 0} {n : ℕ} {rows₀ :
       }
 
   -- what is under a value stands, and with all values of its run is among the open edges
-  pub value_next : {Right' : Entries → Type 0} {d' index' : List ℕ} {step : Step} →
-      Walks (under_value level v) (Held Right d index at) Right' (length d) d' index' (Some step) → v ≤ level.most →
+  pub value_next : {Right' : Entries → Type 0} {d' index' : List ℕ} {end place : ℕ} →
+      Walks (under_value level v) (Held Right d index at) Right' (length d) d' index' end (Some place) → v ≤ level.most →
       {Right'' : Entries → Type 0} (until : ℕ) → v ≤ until →
       ((u : ℕ) → v ≤ u → u ≤ until → (u ≤ level.most) × Alike level.later (given level.rulings u) (given level.rulings v)) →
       length d' ≡ length d → {rows₁ : List Edges} → EdgesKept (level.field + 1) rows rows₁ → length rows₁ ≡ fields → (own : Edges) →
       own.count ≤ (get_or rows₁ level.field no_edges).count + 1 →
-      edges_of own ≡ extend (edges_of (get_or rows₁ level.field no_edges)) until step.place →
-      ((xs : Entries) → step.place ≡ (under_value level v xs).place → Right' (under_value level v xs).entries → Right'' (under_value level v xs).entries) →
-      Before level Given Right'' n rows₀ d' index' (set rows₁ level.field own) step.end (until + 1)
-  value_next {Right'} {d'} {index'} {step} w more {Right''} until far alike same {rows₁} kept long own few e next =
+      edges_of own ≡ extend (edges_of (get_or rows₁ level.field no_edges)) until place →
+      ((xs : Entries) → place ≡ (under_value level v xs).place → Right' (under_value level v xs).entries → Right'' (under_value level v xs).entries) →
+      Before level Given Right'' n rows₀ d' index' (set rows₁ level.field own) end (until + 1)
+  value_next {Right'} {d'} {index'} {end} {place} w more {Right''} until far alike same {rows₁} kept long own few e next =
       let field = level.field in
-      let left : (es : Entries) → Given es → Leaving Right' (under_it es) n d' index' (Some step) = value_leaves (Some step) w in
+      let left : (es : Entries) → Given es → Leaving Right' (under_it es) n d' index' end (Some place) = value_leaves (Some place) w in
       let is : get_or (set rows₁ field own) field no_edges ≡ own = get_or-set_same rows₁ field own no_edges (omega (arith, b.deep)) in
       let before : get_or rows₁ field no_edges ≡ get_or rows field no_edges = kept.above field (omega arith) in
       let opens : (es : Entries) →
@@ -146,29 +146,29 @@ module _ {level : Level} {Given Right : Entries → Type 0} {n : ℕ} {rows₀ :
         deep = b.deep;
         few = omega (arith, b.few, ap (λ (o : Edges). o.count) is, ap (λ (o : Edges). o.count) before);
         reached = omega (arith, (alike until far (omega arith)).0);
-        room = subst (λ k. Room k step.end) (sym same) w.within.0;
+        room = subst (λ k. Room k end) (sym same) w.within.0;
         same_length = same ∙ b.same_length;
         kept = kept_set field own (kept_on field b.kept kept);
         held = λ es g.
-            subst (λ (o : Open). Held Right'' d' index' step.end o.entries) (sym (opens es))
+            subst (λ (o : Open). Held Right'' d' index' end o.entries) (sym (opens es))
             ((left es g).0.laid, next (entries_at es) (left es g).0.at (left es g).1);
         open_edges = λ es g.
             let o = opened level es v in
             ap edges_of is
             ∙ e
-            ∙ ap (λ x. extend x until step.place) (ap edges_of before ∙ b.open_edges es g)
+            ∙ ap (λ x. extend x until place) (ap edges_of before ∙ b.open_edges es g)
             ∙ ap (extend o.edges until) (left es g).0.at
             ∙ sym (ap (λ (x : Open). x.edges) (opens es));
       }
 
   -- all values are walked, and the node is entered
   pub values_done : v ≡ suc level.most → {Right' : Entries → Type 0} → ((es : Entries) → Right es → Right' es) → Grows Right' →
-      {d' index' : List ℕ} {step : Option Step} → Bounded d index d' index' step →
+      {d' index' : List ℕ} {end : ℕ} {place : Option ℕ} → Bounded d index at d' index' end place →
       ((es : Entries) → Laid es d index at →
-      Standing (enter (header fields) es (node (level.field + 1) (edges_of (get_or rows level.field no_edges)))) (length d) d' index' step) →
-      Walks (walk_level level) Given Right' n d' index' step
-  values_done e {Right'} less grows {d'} {index'} {step} bounds stands =
-      subst (λ k. Walks (walk_level level) Given Right' k d' index' step) b.same_length
+      Standing (enter (header fields) es (node (level.field + 1) (edges_of (get_or rows level.field no_edges)))) (length d) d' index' end place) →
+      Walks (walk_level level) Given Right' n d' index' end place
+  values_done e {Right'} less grows {d'} {index'} {end} {place} bounds stands =
+      subst (λ k. Walks (walk_level level) Given Right' k d' index' end place) b.same_length
       (walks_entry (walk_level level) entries_at (node (level.field + 1) (edges_of (get_or rows level.field no_edges))) grows
       (λ es g. ((b.held es g).0, less (entries_at es) (b.held es g).1))
       (λ es g.

@@ -16,7 +16,6 @@ use Rattle.diagram.specs.Decided.{either}
 use Rattle.diagram.proofs.EntryPlaces.{Begins, begins_itself}
 use Rattle.diagram.proofs.WalkingAgainAddsNothing.{walking_again_adds_nothing}
 use Rattle.std.specs.Prelude.{Option, Some, None}
-use Rattle.entering.specs.declared.finding.Step.{Step}
 use Rattle.entering.specs.Walking.{Stays, Remembered, Leaving, Walks}
 
 -- what is right of some entries stays so as more follow
@@ -66,28 +65,28 @@ module _ {A : Type 0} (none : A) (Right : ℕ → A → Entries → Type 0) wher
       (either (eqb s slot))
 
 -- What more is known of a walk.
-module _ {n : ℕ} {d index : List ℕ} {walked : Entries → Entered} {Given Right : Entries → Type 0} {step : Option Step}
-    (w : Walks walked Given Right n d index step) where
+module _ {n : ℕ} {d index : List ℕ} {end : ℕ} {walked : Entries → Entered} {Given Right : Entries → Type 0} {place : Option ℕ}
+    (w : Walks walked Given Right n d index end place) where
   -- a walk from entries of which more was given
-  pub walks_from : {Given' : Entries → Type 0} → ((es : Entries) → Given' es → Given es) → Walks walked Given' Right n d index step
+  pub walks_from : {Given' : Entries → Type 0} → ((es : Entries) → Given' es → Given es) → Walks walked Given' Right n d index end place
   walks_from given = record { within = w.within; outcome = λ es g. w.outcome es (given es g) }
 
   -- a walk that gives the same from every list of entries
-  pub walks_as : {walked' : Entries → Entered} → ((es : Entries) → walked es ≡ walked' es) → Walks walked' Given Right n d index step
+  pub walks_as : {walked' : Entries → Entered} → ((es : Entries) → walked es ≡ walked' es) → Walks walked' Given Right n d index end place
   walks_as same =
       record {
         within = w.within;
-        outcome = λ es g. subst (λ x. Leaving Right x n d index step) (same es) (w.outcome es g);
+        outcome = λ es g. subst (λ x. Leaving Right x n d index end place) (same es) (w.outcome es g);
       }
 
   -- a walk of which more is remembered once it is done
   pub walks_new : {Right' : Entries → Type 0} →
-      ((es : Entries) (s : Step) → step ≡ Some s → s.place ≡ (walked es).place → Right (walked es).entries → Right' (walked es).entries) →
-      Walks walked Given Right' n d index step
+      ((es : Entries) (p : ℕ) → place ≡ Some p → p ≡ (walked es).place → Right (walked es).entries → Right' (walked es).entries) →
+      Walks walked Given Right' n d index end place
   walks_new {Right'} more =
-      record { within = w.within; outcome = λ es g. by (walked es) step (more es) (w.outcome es g) }
+      record { within = w.within; outcome = λ es g. by (walked es) place (more es) (w.outcome es g) }
     where
-      by : (x : Entered) (r : Option Step) → ((s : Step) → r ≡ Some s → s.place ≡ x.place → Right x.entries → Right' x.entries) →
-          Leaving Right x n d index r → Leaving Right' x n d index r
+      by : (x : Entered) (r : Option ℕ) → ((p : ℕ) → r ≡ Some p → p ≡ x.place → Right x.entries → Right' x.entries) →
+          Leaving Right x n d index end r → Leaving Right' x n d index end r
       by x None m l = l
-      by x (Some s) m l = (l.0, m s refl l.0.at l.1)
+      by x (Some p) m l = (l.0, m p refl l.0.at l.1)

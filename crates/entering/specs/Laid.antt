@@ -8,7 +8,6 @@ use Rattle.diagram.specs.Layout.{header, most_places}
 use Rattle.diagram.specs.Entries.{terminal, Edge, node}
 use Rattle.diagram.specs.Walk.{Entries, joined, Entered}
 use Rattle.entering.specs.Index.{Indexed}
-use Rattle.entering.specs.declared.finding.Step.{Step}
 
 -- the numbers of a terminal or of a node
 abbrev pub IsEntry : List ℕ → Type 0
@@ -35,24 +34,25 @@ Room n end = (header fields ≤ end) × (end ≤ n) × (end ≤ most_places)
 abbrev pub NoRoom : Entered → ℕ → Type 0
 NoRoom x n = min most_places n < header fields + length (joined x.entries)
 
--- Nothing is entered: the diagram and the index are left as they were.
-pub record Untouched (d index d' index' : List ℕ) : Type 0 where
+-- Nothing is entered: the diagram, the index and the end are left as they were.
+pub record Untouched (d index : List ℕ) (end : ℕ) (d' index' : List ℕ) (end' : ℕ) : Type 0 where
   pub diagram : d' ≡ d
   pub slots : index' ≡ index
+  pub ends : end' ≡ end
 
--- of n places, those before the end of a step may be taken, and its place is one of them
-abbrev pub Within : ℕ → Step → Type 0
-Within n s = Room n s.end × (s.place < most_places)
+-- of n places, those before `end` may be taken, and a place is small
+abbrev pub Within : ℕ → ℕ → ℕ → Type 0
+Within n end place = Room n end × (place < most_places)
 
--- What entering leaves whatever the diagram holds: a step within these bounds, and where there is no room nothing is entered.
-abbrev pub Bounded : List ℕ → List ℕ → List ℕ → List ℕ → Option Step → Type 0
-Bounded d index d' index' None = Untouched d index d' index'
-Bounded d index d' index' (Some s) = Within (length d) s
+-- What entering leaves whatever the diagram holds: its end and its place are free in these bounds, and where there is no room nothing is entered.
+abbrev pub Bounded : List ℕ → List ℕ → ℕ → List ℕ → List ℕ → ℕ → Option ℕ → Type 0
+Bounded d index end d' index' end' None = Untouched d index end d' index' end'
+Bounded d index end d' index' end' (Some place) = Within (length d) end' place
 
 -- an entry of so many numbers that does not stand before the end is to stand there, and the next one after it
-abbrev pub NewAtEnd : ℕ → ℕ → Option Step → Type 0
-NewAtEnd end size None = Unit {0}
-NewAtEnd end size (Some s) = end ≤ s.place → (s.place ≡ end) × (s.end ≡ end + size)
+abbrev pub NewAtEnd : ℕ → ℕ → ℕ → Option ℕ → Type 0
+NewAtEnd end size end' None = Unit {0}
+NewAtEnd end size end' (Some place) = end ≤ place → (place ≡ end) × (end' ≡ end + size)
 
 -- the entries of x end at `end`, what was entered stands at `place`, and the index is right about them
 pub record Settled (x : Entered) (index : List ℕ) (end place : ℕ) : Type 0 where
@@ -61,9 +61,9 @@ pub record Settled (x : Entered) (index : List ℕ) (end place : ℕ) : Type 0 w
   pub indexed : Indexed x.entries index
 
 -- where an entry stands or is to stand, before it is written
-abbrev pub Settling : Entered → ℕ → List ℕ → Option Step → Type 0
-Settling x n index None = NoRoom x n
-Settling x n index (Some s) = Settled x index s.end s.place
+abbrev pub Settling : Entered → ℕ → List ℕ → ℕ → Option ℕ → Type 0
+Settling x n index end None = NoRoom x n
+Settling x n index end (Some place) = Settled x index end place
 
 -- the entries of x stand in d up to `end`, and what was entered at `place`
 pub record Stood (x : Entered) (d index : List ℕ) (end place : ℕ) : Type 0 where
@@ -71,6 +71,6 @@ pub record Stood (x : Entered) (d index : List ℕ) (end place : ℕ) : Type 0 w
   pub at : place ≡ x.place
 
 -- what entering an entry leaves, once it is written
-abbrev pub Standing : Entered → ℕ → List ℕ → List ℕ → Option Step → Type 0
-Standing x n d index None = NoRoom x n
-Standing x n d index (Some s) = Stood x d index s.end s.place
+abbrev pub Standing : Entered → ℕ → List ℕ → List ℕ → ℕ → Option ℕ → Type 0
+Standing x n d index end None = NoRoom x n
+Standing x n d index end (Some place) = Stood x d index end place

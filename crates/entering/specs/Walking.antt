@@ -5,7 +5,6 @@ use Rattle.answer.specs.Fields.{fields}
 use Rattle.answer.specs.Rulings.{Ruling}
 use Rattle.diagram.specs.Walk.{Entries, Entered, walk}
 use Rattle.entering.specs.Laid.{Laid, Within, NoRoom, Stood}
-use Rattle.entering.specs.declared.finding.Step.{Step}
 
 -- among the entries es the walk over the maxima ms adds nothing, and what it gives stands at place p
 abbrev pub Stays : List ℕ → (List ℕ → Ruling) → Entries → ℕ → Type 0
@@ -20,16 +19,16 @@ abbrev pub Held : (Entries → Type 0) → List ℕ → List ℕ → ℕ → Ent
 Held Right d index end es = Laid es d index end × Right es
 
 -- what a walk leaves: of n places there was room, or not, and then what stands in the diagram and the index, and what is remembered, is free
-abbrev pub Leaving : (Entries → Type 0) → Entered → ℕ → List ℕ → List ℕ → Option Step → Type 0
-Leaving Right x n d index None = NoRoom x n
-Leaving Right x n d index (Some s) = Stood x d index s.end s.place × Right x.entries
+abbrev pub Leaving : (Entries → Type 0) → Entered → ℕ → List ℕ → List ℕ → ℕ → Option ℕ → Type 0
+Leaving Right x n d index end None = NoRoom x n
+Leaving Right x n d index end (Some place) = Stood x d index end place × Right x.entries
 
--- where there was room, the step is within n places
-abbrev pub StepWithin : ℕ → Option Step → Type 0
-StepWithin n None = Unit {0}
-StepWithin n (Some s) = Within n s
+-- where there was room, the end and the place are within n places
+abbrev pub EndsWithin : ℕ → ℕ → Option ℕ → Type 0
+EndsWithin n end None = Unit {0}
+EndsWithin n end (Some place) = Within n end place
 
 -- A walk in n places, from entries as given.
-pub record Walks (walked : Entries → Entered) (Given Right : Entries → Type 0) (n : ℕ) (d index : List ℕ) (step : Option Step) : Type 0 where
-  pub within : StepWithin n step
-  pub outcome : (es : Entries) → Given es → Leaving Right (walked es) n d index step
+pub record Walks (walked : Entries → Entered) (Given Right : Entries → Type 0) (n : ℕ) (d index : List ℕ) (end : ℕ) (place : Option ℕ) : Type 0 where
+  pub within : EndsWithin n end place
+  pub outcome : (es : Entries) → Given es → Leaving Right (walked es) n d index end place

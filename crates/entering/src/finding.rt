@@ -14,11 +14,12 @@ pub const SLOTS: usize = 8192;
 
 const TRIES: usize = 32;
 
-// What entering leaves: the place after the last entry, and the place of what was entered.
-#[derive(Clone, Copy)]
-pub struct Step {
+// The index of a diagram's entries: the place after the last one, and slots that hold places of entries. 0 in a slot holds none:
+// an Option would take twice the room, which is cleared at each build.
+#[derive(Drop)]
+pub struct Index {
     pub end: usize,
-    pub place: usize,
+    pub slots: [u16; SLOTS],
 }
 
 // The place of the first entry before `end` that is equal, by comparing with each.
@@ -76,66 +77,62 @@ enum Found {
     Absent(Option<usize>),
 }
 
-// Searches for an equal entry: the index knows it, or all entries are compared.
-fn find(diagram: &[u16], end: usize, index: &[u16; SLOTS], entry: &[u16]) -> Found
-    requires { Room (length diagram.now) end }
-    ensures within { FoundWithin end result }
-    ensures finding { (es : Entries) → Laid es diagram.now index.now end → Finding es index.now end entry.now result }
-{
-    let hash = hash(entry);
-    for tried in 0..TRIES {
-        let slot = (hash + tried) % SLOTS;
-        let place = usize::from(index[slot]);
-        if place == 0 {
-            return Found::Absent(Some(slot));
-        }
-        if equal_at(diagram, end, place, entry) {
-            return Found::Equal(place);
-        }
-    }
-    match scan(diagram, end, entry) {
-        Some(place) => Found::Equal(place),
-        None => Found::Absent(None),
-    }
-}
-
-// Notes a place in a slot, where there is one.
-fn note(index: &mut [u16; SLOTS], slot: Option<usize>, place: u16)
-    requires { IfSome slot (λ s. s < slots) }
-    ensures { index.new ≡ noted slot index.old place }
-{
-    if let Some(slot) = slot {
-        index[slot] = place;
-    }
-}
-
-// Where an entry stands, or is to stand after the last one, if there is room: the index then knows it.
-pub(crate) fn settle(
-    diagram: &[u16],
-    end: usize,
-    index: &mut [u16; SLOTS],
-    entry: &[u16],
-) -> Option<Step>
-    requires { Room (length diagram.now) end × ((1 ≤ length entry.now) × (length entry.now ≤ 514)) }
-    ensures bounded { Bounded diagram.now index.old diagram.now index.new result }
-    ensures place_value { NewAtEnd end (length entry.now) result }
-    ensures settling { (es : Entries) → Laid es diagram.now index.old end → Settling (enter (header fields) es entry.now) (length diagram.now) index.new result }
-{
-    match find(diagram, end, index, entry) {
-        Found::Equal(place) => Some(Step { end, place }),
-        Found::Absent(slot) => {
-            let next = end + entry.len();
-            if MOST_PLACES < next {
-                return None;
+impl Index {
+    // Searches for an equal entry: a slot holds its place, or all entries are compared.
+    fn find(&self, diagram: &[u16], entry: &[u16]) -> Found
+        requires { Room (length diagram.now) self.now.end }
+        ensures within { FoundWithin self.now.end result }
+        ensures finding { (es : Entries) → Laid es diagram.now self.now.slots self.now.end → Finding es self.now.slots self.now.end entry.now result }
+    {
+        let hash = hash(entry);
+        for tried in 0..TRIES {
+            let slot = (hash + tried) % SLOTS;
+            let place = usize::from(self.slots[slot]);
+            if place == 0 {
+                return Found::Absent(Some(slot));
             }
-            if diagram.len() < next {
-                return None;
+            if equal_at(diagram, self.end, place, entry) {
+                return Found::Equal(place);
             }
-            note(index, slot, end as u16);
-            Some(Step {
-                end: next,
-                place: end,
-            })
+        }
+        match scan(diagram, self.end, entry) {
+            Some(place) => Found::Equal(place),
+            None => Found::Absent(None),
+        }
+    }
+
+    // Notes a place in a slot, where there is one.
+    fn note(&mut self, slot: Option<usize>, place: u16)
+        requires { IfSome slot (λ s. s < slots) }
+        ensures { (self.new.slots ≡ noted slot self.old.slots place) × (self.new.end ≡ self.old.end) }
+    {
+        if let Some(slot) = slot {
+            self.slots[slot] = place;
+        }
+    }
+
+    // Where an entry stands, or is to stand after the last one, if there is room: it is then noted.
+    pub(crate) fn settle(&mut self, diagram: &[u16], entry: &[u16]) -> Option<usize>
+        requires { Room (length diagram.now) self.old.end × ((1 ≤ length entry.now) × (length entry.now ≤ 514)) }
+        ensures bounded { Bounded diagram.now self.old.slots self.old.end diagram.now self.new.slots self.new.end result }
+        ensures place_value { NewAtEnd self.old.end (length entry.now) self.new.end result }
+        ensures settling { (es : Entries) → Laid es diagram.now self.old.slots self.old.end → Settling (enter (header fields) es entry.now) (length diagram.now) self.new.slots self.new.end result }
+    {
+        match self.find(diagram, entry) {
+            Found::Equal(place) => Some(place),
+            Found::Absent(slot) => {
+                let place = self.end;
+                let next = place + entry.len();
+                if MOST_PLACES < next {
+                    return None;
+                }
+                if diagram.len() < next {
+                    return None;
+                }
+                self.note(slot, place as u16);
+                self.end = next;
+                Some(place)
+            }
         }
     }
 }

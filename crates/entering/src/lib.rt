@@ -6,5 +6,4 @@ mod entering;
 mod finding;
 pub mod writing;
 
-pub use entering::{enter_node, enter_terminal};
-pub use finding::{SLOTS, Step};
+pub use finding::{Index, SLOTS};

@@ -1,5 +1,5 @@
 -- Laws of the first and last values of a node's edges.
-use mathlib.Core.Path.{◌≡◌, refl, ap}
+use mathlib.Core.Path.{◌≡◌, ap}
 use mathlib.Core.List.{List}
 use Prim.Native.Nat.{ℕ, zero, suc, ◌+◌, ◌-◌, ◌≤◌, ◌<◌}
 use native.Mathlib.Omega.{arith}
@@ -13,10 +13,6 @@ use Rattle.diagram.proofs.ValueTakesARealEdge.{value_takes_a_real_edge}
 use Rattle.diagram.proofs.Descent.{node_here, maximum_here, value_most}
 use Rattle.lookup.proofs.Halving.{last_rises}
 use Rattle.listing.specs.Paths.{first_at}
-
-pub first_later : (d : List ℕ) (p j : ℕ) → (j ≡ 0 → ⊥) → last_at d p (j - 1) + 1 ≡ first_at d p j
-first_later d p zero h = absurd (h refl)
-first_later d p (suc j) h = let z : suc j - 1 ≡ j = omega arith in ap (λ (n : ℕ). last_at d p n + 1) z
 
 -- the edge of a value does not begin above it
 pub first_most : (d : List ℕ) (p v j : ℕ) → j ≡ edge d p v → first_at d p j ≤ v
@@ -39,6 +35,3 @@ module _ (d : List ℕ) (s : Sound fields d) (p f : ℕ) (e : EntryBefore fields
   next_first_most j h =
       let z : first_at d p (j + 1) ≡ last_at d p j + 1 = ap (first_at d p) (add-one j) in
       omega (arith, (node_here d s p f e l).rising j h, last_most (j + 1) h)
-
-  pub first_small : (j : ℕ) → j + 1 < edges_at d p → first_at d p (j + 1) ≤ 255
-  first_small j h = omega (arith, next_first_most j h, s.maxima f l)

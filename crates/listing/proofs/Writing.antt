@@ -27,9 +27,6 @@ module _ {t u : List ℕ} {a b : ℕ} {xs : List ℕ} (w : Written t u a b xs) w
   pub room_between : (ys zs : List ℕ) → RoomFor t a (xs ++ (ys ++ zs)) → RoomFor u b ys
   room_between ys zs h = room_first u b ys zs (room_rest (ys ++ zs) h)
 
-  pub written_as : {ys : List ℕ} → xs ≡ ys → Written t u a b ys
-  written_as e = subst (Written t u a b) e w
-
   -- writing xs and then ys is writing both at once
   pub written_join : {v : List ℕ} {e : ℕ} (ys : List ℕ) → Written u v b e ys → Written t v a e (xs ++ ys)
   written_join {v} {e} ys x =

@@ -2,17 +2,11 @@
 use mathlib.Core.Path.{◌≡◌, sym, ap, ◌∙◌}
 use mathlib.Core.Bool.{false, cond}
 use mathlib.Core.Logic.{⊎_elim}
-use mathlib.Core.List.{List, [], ◌∷◌, ◌++◌, map}
+use mathlib.Core.List.{List, [], ◌∷◌, ◌++◌}
 use Prim.Native.Nat.{ℕ, ◌-◌, ◌<◌}
 use native.Mathlib.Omega.{arith}
-use mir.Syntax.{w16}
-use mir.Val.{Val}
-use denote.Laws.{Is}
-use denote.Array.{Array}
 use borrow.Author.Tests.{ne_eqb}
-use borrow.Kind.Array.{e_int, good_length}
 use lib.Dec.{eqb, lit<}
-use lib.ListN.{length, length-map}
 use Rattle.answer.specs.Answers.{refused, ruled, zeros, padded}
 use Rattle.answer.specs.Refusals.{Refusal, row, None, First}
 use Rattle.answer.specs.Fields.{fields}
@@ -23,11 +17,6 @@ use Rattle.answer.proofs.Settling.{all_join, all_upward, all_first, first_or_non
 use Rattle.encoding.specs.Layout.{maximum}
 use Rattle.targets.specs.Subjects.{size}
 use Rattle.ruling.specs.Ruling.{groups_together, asked_refusals, ruled_after, listed_after, for_subjects}
-
--- a request has a value for each field but the subject
-pub others_counted : (others : List ℕ) {vs : List Val} → Is (Array (e_int w16).ty (fields - 1)) (map (λ v. v) others) vs → length others ≡ fields - 1
-others_counted others {vs} h =
-    let n = good_length (e_int w16) (fields - 1) (map (λ v. v) others) vs h in omega (arith, n, length-map others (λ v. v))
 
 -- no refusal of what is asked has number 0
 asked_numbered : (t : List ℕ) (s : ℕ) (others : List ℕ) (n : ℕ) → Numbered (asked_refusals t s others n)
@@ -49,6 +38,14 @@ with_subjects rs r m numbered =
     ∙ ap (λ b. cond b (ruled 0 0 m) (refused f.0.number f.0.place)) other
     ∙ sym (settled_first refused (answer_of r m) rs f.1))
     (first_or_none rs)
+
+-- the same, where some refusals come before those of what is asked
+pub subjects_counted : (before : List Refusal) (t : List ℕ) (s : ℕ) (others : List ℕ) (n : ℕ) → Numbered before →
+    for_subjects (ruled_or (before ++ asked_refusals t s others n) (groups_together t s others) 0) (size s)
+    ≡ ruled_after (before ++ asked_refusals t s others n) t s others
+subjects_counted before t s others n numbered =
+    with_subjects (before ++ asked_refusals t s others n) (groups_together t s others) (size s)
+    (all_join (λ r. 0 < r.number) before (asked_refusals t s others n) numbered (asked_numbered t s others n))
 
 module _ (before : List Refusal) (t : List ℕ) (s : ℕ) (others : List ℕ) (n : ℕ) (a : Answer) (list : List ℕ) where
   abbrev pub Answered : Type 0

@@ -3,31 +3,30 @@ ghost use Rattle.std.specs.Prelude.{◌≡◌, ◌-◌, length};
 ghost use Rattle.answer.specs.Answers.{zeros};
 ghost use Rattle.answer.specs.Fields.{fields};
 ghost use Rattle.answer.specs.Rulings.{ruled_or};
-ghost use Rattle.table.specs.WellFormed.{WellFormed};
 ghost use Rattle.targets.specs.Subjects.{size};
-ghost use Rattle.ruling.specs.Ruling.{groups_together, asked_refusals, ruled_answer, for_subjects, listed_after, ruling, ruled_list};
+ghost use Rattle.ruling.specs.Ruling.{groups_together, asked_refusals, ruling_refusals, ruled_answer, for_subjects, listed_after, ruling, ruled_list};
 
 use crate::groups::{Ruled, rule_read};
 use answer::{Answer, JointRequest, OTHERS, Refusal, Refused, clear, field_fault};
 use encoding::layout::maxima_at;
 use sets::ones_at;
-use table::read;
+use table::Table;
 use targets::subjects_fault;
 
 // Rules on several subjects together by an accepted table, where the other fields have these values, with a list that was cleared: refusals 13,
 // 9 and 10 in order, or the decision and the number of cards.
 pub fn rule_accepted(
-    table: &[u8],
+    table: Table,
     subjects: u64,
     others: &[u16; OTHERS],
     cards: &mut [u16],
 ) -> Result<Ruled, Refused>
-    requires well_formed { WellFormed table.now × (length others.now ≡ fields - 1) }
+    requires others_length { length others.now ≡ fields - 1 }
     requires cards_value { cards.old ≡ zeros (length cards.old) }
-    ensures value { ruled_answer result ≡ ruled_or (asked_refusals table.now subjects others.now (length cards.old)) (groups_together table.now subjects others.now) 0 }
-    ensures cards_after { cards.new ≡ listed_after (asked_refusals table.now subjects others.now (length cards.old)) table.now subjects others.now (length cards.old) }
+    ensures value { ruled_answer result ≡ ruled_or (asked_refusals table.entry.bytes.now subjects others.now (length cards.old)) (groups_together table.entry.bytes.now subjects others.now) 0 }
+    ensures cards_after { cards.new ≡ listed_after (asked_refusals table.entry.bytes.now subjects others.now (length cards.old)) table.entry.bytes.now subjects others.now (length cards.old) }
 {
-    let maxima = maxima_at(table);
+    let maxima = maxima_at(table.bytes);
     if subjects_fault(subjects, maxima[0]) {
         return Err(Refusal::Subjects.at(0));
     }
@@ -52,6 +51,17 @@ pub fn for_subjects(outcome: Result<Ruled, Refused>, subjects: u64) -> Answer
     }
 }
 
+// Rules on a request of several subjects together, with a list that was cleared: the first refusal of the table or of what it is asked,
+// or the decision and the number of cards.
+fn rule_checked(bytes: &[u8], request: JointRequest, cards: &mut [u16]) -> Result<Ruled, Refused>
+    requires { cards.old ≡ zeros (length cards.old) }
+    ensures value { ruled_answer result ≡ ruled_or (ruling_refusals bytes.now request.subjects request.others (length cards.old)) (groups_together bytes.now request.subjects request.others) 0 }
+    ensures cards_after { cards.new ≡ ruled_list bytes.now request.subjects request.others (length cards.old) }
+{
+    let table = Table::accept(bytes)?;
+    rule_accepted(table, request.subjects, &request.others, cards)
+}
+
 // Rules on a request of several subjects together: the decision, how many subjects they are, and in the list the cards of all
 // matching rules, with zeros after them.
 pub fn rule(table: &[u8], request: JointRequest, cards: &mut [u16]) -> Answer
@@ -59,11 +69,6 @@ pub fn rule(table: &[u8], request: JointRequest, cards: &mut [u16]) -> Answer
     ensures cards_after { cards.new ≡ ruled_list table.now request.subjects request.others (length cards.old) }
 {
     clear(cards);
-    let reading = read(table);
-    if reading.number != 0 {
-        return reading;
-    }
-    let others = request.others;
-    let outcome = rule_accepted(table, request.subjects, &others, cards);
+    let outcome = rule_checked(table, request, cards);
     for_subjects(outcome, request.subjects)
 }

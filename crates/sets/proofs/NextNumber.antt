@@ -3,7 +3,7 @@ use mathlib.Core.Path.{◌≡◌, refl, sym, ap, ap₂, ◌∙◌, subst}
 use mathlib.Core.Bool.{Bool, true, false, not, ◌&&◌, true≢false}
 use mathlib.Core.Logic.{⊎_elim}
 use Prim.Native.Nat.{ℕ, zero, suc, ◌+◌, ◌-◌, ◌/◌, ◌%◌, ◌^◌, ◌≤◌, ◌<◌}
-use native.Mathlib.Nat.{mod-lt, zero-lt-suc, eq-zero-or-pos, eq-or-lt_of_le, div-add-mod'}
+use native.Mathlib.Nat.{mod-lt, zero-lt-suc, eq-or-lt_of_le, div-add-mod'}
 use native.Mathlib.Numerals.{add-one}
 use native.Mathlib.Omega.{arith}
 use lib.Bits.{bit_and as word_and}
@@ -13,6 +13,8 @@ use lib.Dec.{eqb, eqb-zero-suc, eqb-suc-suc}
 use lib.Arith.{lt-one}
 use Rattle.answer.proofs.Tests.{lt_or_ge}
 use Rattle.std.specs.Prelude.{Option, Some, None, option_map}
+use Rattle.std.specs.Int.{w64}
+use Rattle.std.proofs.lemmas.Nat.Bits.{bit_at-trailing_zeros}
 use Rattle.sets.specs.Sets.{bit, has, Next, NextOrNone}
 use Rattle.sets.specs.declared.Set.{Set}
 use Rattle.sets.proofs.WordPlaces.{bit_and, bit_none, bit_past, bit_first, bit_later, bit_shifted}
@@ -52,53 +54,31 @@ but_odd w e (suc j) =
     twice true = refl
     twice false = refl
 
--- place r of a word is set and none before it, and it is the one place of the word that the word less 1 does not have
-record First (k w r : ℕ) : Type 0 where
-  below : r < k
-  passes : bit w r ≡ true
-  before : (j : ℕ) → j < r → bit w j ≡ false
-  but : ButLeast w r
-
-first_trailing : (k w : ℕ) → 0 < w → w < 2 ^ k → First k w (count_trailing_zeros k w)
+but_least : (k w : ℕ) → 0 < w → w < 2 ^ k → ButLeast w (count_trailing_zeros k w)
 unfolding count_trailing_zeros
-first_trailing zero w p l = absurd (omega (arith, lt-one l))
-first_trailing (suc k) w p l = step k w p (w % 2) refl (mod-lt w (zero-lt-suc 1)) (λ q. first_trailing k (w / 2) q (shr_lt k 1 (rw (add-one k) l)))
+but_least zero w p l = absurd (omega (arith, lt-one l))
+but_least (suc k) w p l = step (w % 2) refl (λ q. but_least k (w / 2) q (shr_lt k 1 (rw (add-one k) l)))
   where
-    step : (k w : ℕ) → 0 < w → (d : ℕ) → w % 2 ≡ d → d < 2 → (0 < w / 2 → First k (w / 2) (count_trailing_zeros k (w / 2))) →
-        First (suc k) w (under d (count_trailing_zeros k (w / 2)))
-    step k w p zero e ld ih =
-        let h = ih (omega (arith, div-add-mod' w 2)) in
-        record {
-          below = omega (arith, h.below);
-          passes = bit_later w (count_trailing_zeros k (w / 2)) ∙ h.passes;
-          before = λ j lj.
-              ⊎_elim
-              (λ (z : j ≡ 0). ap (bit w) z ∙ bit_first w ∙ ap (λ x. eqb x 1) e)
-              (λ (z : 0 < j).
-              let y : j ≡ suc (j - 1) = omega arith in
-              ap (bit w) y ∙ bit_later w (j - 1) ∙ h.before (j - 1) (omega arith))
-              (eq-zero-or-pos j);
-          but = but_even w (count_trailing_zeros k (w / 2)) p e h.but;
-        }
-    step k w p (suc d) e ld ih =
-        let z : w % 2 ≡ 1 = omega arith in
-        record { below = omega arith; passes = bit_first w ∙ ap (λ x. eqb x 1) z; before = λ j lj. absurd (omega arith); but = but_odd w z }
+    step : (d : ℕ) → w % 2 ≡ d → (0 < w / 2 → ButLeast (w / 2) (count_trailing_zeros k (w / 2))) → ButLeast w (under d (count_trailing_zeros k (w / 2)))
+    step zero e ih = but_even w (count_trailing_zeros k (w / 2)) p e (ih (omega (arith, div-add-mod' w 2)))
+    step (suc d) e ih = but_odd w (omega (arith, mod-lt w (zero-lt-suc 1)))
 
 -- of a word that is not 0
 
 module _ (w : ℕ) (lw : w < 2 ^ 64) (some : 0 < w) where
-  first : First 64 w (count_trailing_zeros 64 w)
-  first = first_trailing 64 w some lw
-
   pub least_within : count_trailing_zeros 64 w < 64
-  least_within = first.below
+  least_within = (bit_at-trailing_zeros w64 w some lw).0
 
   pub least_next : Next 64 (bit w) 0 (count_trailing_zeros 64 w)
+  unfolding bit
   least_next =
-      record { from = omega arith; most = omega (arith, least_within); passes = λ _. first.passes; between = λ j _ l. first.before j l }
+      let (l, one, zeros) = bit_at-trailing_zeros w64 w some lw in
+      record { from = omega arith; most = omega arith; passes = λ _. ap (λ d. eqb d 1) one; between = λ j _ lj. ap (λ d. eqb d 1) (zeros j lj) }
 
   pub least_out : (i : ℕ) → Next 64 (bit w) 0 i → (j : ℕ) → bit (word_and w (w - 1)) j ≡ bit w j && not (eqb i j)
-  least_out i n j = bit_and w (w - 1) j ∙ first.but j ∙ ap (λ r. bit w j && not (eqb r j)) (next_one 64 (bit w) 0 (count_trailing_zeros 64 w) i least_next n)
+  least_out i n j =
+      bit_and w (w - 1) j ∙ but_least 64 w some lw j
+      ∙ ap (λ r. bit w j && not (eqb r j)) (next_one 64 (bit w) 0 (count_trailing_zeros 64 w) i least_next n)
 
 -- of a word from i up
 
@@ -128,8 +108,8 @@ module _ (w i r : ℕ) (lw : w < 2 ^ 64) (n : Next 64 (bit (w / 2 ^ i)) 0 r) (l 
 
 -- of a set: of the low word, or of the high one where that has none
 
-module _ (s : Set) (i : ℕ) (most : i ≤ 128) where
-  next_low : (a : ℕ) → Next 64 (bit s.low) i a × (a < 64) → Next 128 (has s) i a × (a < 128)
+module _ (s : Set) (i : ℕ) where
+  pub next_low : (a : ℕ) → Next 64 (bit s.low) i a × (a < 64) → Next 128 (has s) i a × (a < 128)
   next_low a (h, l) = (
     record {
       from = h.from;
@@ -140,27 +120,30 @@ module _ (s : Set) (i : ℕ) (most : i ≤ 128) where
     omega arith,
   )
 
+  -- where the low word has none from i up
   module _ (none : (j : ℕ) → i ≤ j → j < 64 → bit s.low j ≡ false) where
     -- up to number n, below which the high word has none
     none_up : (n : ℕ) → ((j : ℕ) → i - 64 ≤ j → j < n - 64 → bit s.high j ≡ false) → (j : ℕ) → i ≤ j → j < n → has s j ≡ false
     none_up n k j lj lk =
         ⊎_elim (λ (l : j < 64). has_low s j l ∙ none j lj l) (λ (l : 64 ≤ j). has_high s j l ∙ k (j - 64) (omega arith) (omega arith)) (lt_or_ge j 64)
 
-    next_high : (r : Option ℕ) → NextOrNone 64 (bit s.high) (i - 64) r → NextOrNone 128 (has s) i (option_map (λ p. 64 + p) r)
-    next_high None k = none_up 128 k
-    next_high (Some b) (h, l) =
-        let z : 64 + b - 64 ≡ b = omega arith in (
+    pub next_high : (k : ℕ) → i - 64 ≡ k → i ≤ 64 + k → (high r : Option ℕ) → NextOrNone 64 (bit s.high) k high → r ≡ option_map (λ p. 64 + p) high →
+        NextOrNone 128 (has s) i r
+    next_high k ek lk None r h e = subst (NextOrNone 128 (has s) i) (sym e) (none_up 128 (λ j lj ll. h j (omega arith) (omega arith)))
+    next_high k ek lk (Some b) r (h, l) e =
+        let z : 64 + b - 64 ≡ b = omega arith in
+        subst (NextOrNone 128 (has s) i) (sym e) (
           record {
             from = omega (arith, h.from);
             most = omega arith;
             passes = λ _. has_high s (64 + b) (omega arith) ∙ ap (bit s.high) z ∙ h.passes l;
-            between = none_up (64 + b) (λ j lj lk. h.between j lj (omega arith));
+            between = none_up (64 + b) (λ j lj ll. h.between j (omega arith) (omega arith));
           },
           omega arith,
         )
 
   -- the number that the low word gives, or else the one that the high word gives
-  pub next_either : (low r : Option ℕ) → NextOrNone 64 (bit s.low) i low → ((x : ℕ) → low ≡ Some x → r ≡ Some x) →
-      (low ≡ None → (high : Option ℕ) × NextOrNone 64 (bit s.high) (i - 64) high × (r ≡ option_map (λ p. 64 + p) high)) → NextOrNone 128 (has s) i r
-  next_either (Some x) r n l h = subst (NextOrNone 128 (has s) i) (sym (l x refl)) (next_low x n)
-  next_either None r n l h = let (high, k, e) = h refl in subst (NextOrNone 128 (has s) i) (sym e) (next_high n high k)
+  pub next_either : (low r : Option ℕ) → i < 64 → NextOrNone 64 (bit s.low) i low → ((x : ℕ) → low ≡ Some x → r ≡ Some x) →
+      (low ≡ None → (high : Option ℕ) × NextOrNone 64 (bit s.high) 0 high × (r ≡ option_map (λ p. 64 + p) high)) → NextOrNone 128 (has s) i r
+  next_either (Some x) r m n l h = subst (NextOrNone 128 (has s) i) (sym (l x refl)) (next_low x n)
+  next_either None r m n l h = let (high, k, e) = h refl in next_high n 0 (omega arith) (omega arith) high r k e

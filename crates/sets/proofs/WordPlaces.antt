@@ -1,19 +1,18 @@
 -- Which places of a word are set after the bit operations.
 use mathlib.Core.Path.{◌≡◌, refl, sym, ap, ap₂, ◌∙◌}
-use mathlib.Core.Bool.{Bool, true, false, cond, not, ◌&&◌, ◌||◌}
+use mathlib.Core.Bool.{Bool, true, false, not, ◌&&◌, ◌||◌}
 use mathlib.Core.Logic.{⊎_elim}
 use Prim.Native.Nat.{ℕ, zero, suc, ◌+◌, ◌-◌, ◌*◌, ◌/◌, ◌%◌, ◌^◌, ◌≤◌, ◌<◌, min, max}
-use native.Mathlib.Nat.{mod-lt, div-one, div-eq_of_lt, eq-or-lt_of_le, zero-lt-suc, lt_of_lt_of_le, pow-suc}
-use native.Mathlib.Numerals.{one-add}
+use native.Mathlib.Nat.{mod-lt, zero-lt-suc}
 use native.Mathlib.Omega.{arith}
-use borrow.Author.Tests.{eq-eqb, ne_eqb, lt-ltb, le-ltb, lt-leb, le-leb}
-use lib.Arith.{digits_mod}
-use lib.Bits.{bit_and as word_and, bit_or as word_or, and_step, or_step, and_shr, or_shr, and_mask, shifted_half, shifted_even}
-use lib.Pow.{pow_mono, pow_pos, shr-shr}
-use lib.Dec.{eqb, ltb, leb, lit<}
+use borrow.Author.Tests.{eqb-true, eqb-false, eq-eqb, ne_eqb, lt-ltb, le-ltb, lt-leb, le-leb}
+use lib.Bits.{bit_and as word_and, bit_or as word_or, and_mask, shifted_half, shifted_even}
+use lib.Pow.{shr-shr}
+use lib.Dec.{eqb, ltb, leb}
 use Rattle.answer.proofs.Tests.{lt_or_ge}
-use Rattle.std.specs.Int.{w64}
-use Rattle.std.proofs.lemmas.Nat.Bits.{bit_at_not}
+use Rattle.std.specs.Int.{w64, bit_at}
+use Rattle.std.proofs.lemmas.Nat.{one_shl}
+use Rattle.std.proofs.lemmas.Nat.Bits.{bit_at_and, bit_at_or, bit_at_not, bit_at-lt, bit_at-zero, bit_at_above, bit_at_lowest, bit_at-suc, bit_at_ones, bit_at_ones_above, shr_and_one, bit_at-pow_same, bit_at-pow_other}
 use Rattle.sets.specs.Sets.{bit}
 
 -- two tests that say yes and no together
@@ -29,31 +28,25 @@ two P a b zero l = a
 two P a b (suc zero) l = b
 two P a b (suc (suc x)) l = absurd (omega arith)
 
--- an operation that goes digit by digit through f, where f of two digits is a digit and means g
-module _ (op f : ℕ → ℕ → ℕ) (g : Bool → Bool → Bool)
-    (shr : (a b k : ℕ) → op a b / 2 ^ k ≡ op (a / 2 ^ k) (b / 2 ^ k))
-    (step : (a b : ℕ) → op a b ≡ op (a / 2) (b / 2) * 2 + f (a % 2) (b % 2)) where
-  abbrev Means : ℕ → ℕ → Type 0
-  Means x y = (f x y < 2) × (eqb (f x y) 1 ≡ g (eqb x 1) (eqb y 1))
-
-  by_digits : Means 0 0 → Means 0 1 → Means 1 0 → Means 1 1 → (a b i : ℕ) → bit (op a b) i ≡ g (bit a i) (bit b i)
-  unfolding bit
-  by_digits p q r s a b i =
-      let x = a / 2 ^ i in
-      let y = b / 2 ^ i in
-      let ly = mod-lt y (zero-lt-suc 1) in
-      let m : Means (x % 2) (y % 2) = two (λ d. Means d (y % 2)) (two (Means 0) p q (y % 2) ly) (two (Means 1) r s (y % 2) ly) (x % 2) (mod-lt x (zero-lt-suc 1)) in
-      ap (λ n. eqb (n % 2) 1) (shr a b i ∙ step x y) ∙ ap (λ n. eqb n 1) (digits_mod (op (x / 2) (y / 2)) m.0) ∙ m.1
+-- a fact of both digits of two numbers below 2
+twos : (P : ℕ → ℕ → Type 0) → P 0 0 → P 0 1 → P 1 0 → P 1 1 → (x y : ℕ) → x < 2 → y < 2 → P x y
+twos P p q r s x y lx ly = two (λ d. P d y) (two (P 0) p q y ly) (two (P 1) r s y ly) x lx
 
 pub bit_and : (a b i : ℕ) → bit (word_and a b) i ≡ bit a i && bit b i
-bit_and = by_digits word_and min (λ x y. x && y) and_shr and_step (lit< tt, refl) (lit< tt, refl) (lit< tt, refl) (lit< tt, refl)
+unfolding bit
+bit_and a b i =
+    ap (λ d. eqb d 1) (bit_at_and a b i)
+    ∙ twos (λ x y. eqb (min x y) 1 ≡ (eqb x 1 && eqb y 1)) refl refl refl refl (bit_at a i) (bit_at b i) (bit_at-lt a i) (bit_at-lt b i)
 
 pub bit_or : (a b i : ℕ) → bit (word_or a b) i ≡ bit a i || bit b i
-bit_or = by_digits word_or max (λ x y. x || y) or_shr or_step (lit< tt, refl) (lit< tt, refl) (lit< tt, refl) (lit< tt, refl)
+unfolding bit
+bit_or a b i =
+    ap (λ d. eqb d 1) (bit_at_or a b i)
+    ∙ twos (λ x y. eqb (max x y) 1 ≡ (eqb x 1 || eqb y 1)) refl refl refl refl (bit_at a i) (bit_at b i) (bit_at-lt a i) (bit_at-lt b i)
 
 pub bit_zero : (i : ℕ) → bit 0 i ≡ false
 unfolding bit
-bit_zero i = ap (λ n. eqb (n % 2) 1) (div-eq_of_lt (pow_pos i))
+bit_zero i = ap (λ d. eqb d 1) (bit_at-zero i)
 
 pub bit_none : (w i : ℕ) → w ≡ 0 → bit w i ≡ false
 bit_none w i e = ap (λ w. bit w i) e ∙ bit_zero i
@@ -61,7 +54,7 @@ bit_none w i e = ap (λ w. bit w i) e ∙ bit_zero i
 -- past the last place of a word
 pub bit_past : (w i : ℕ) → w < 2 ^ 64 → 64 ≤ i → bit w i ≡ false
 unfolding bit
-bit_past w i l h = ap (λ n. eqb (n % 2) 1) (div-eq_of_lt (lt_of_lt_of_le l (pow_mono h)))
+bit_past w i l h = ap (λ d. eqb d 1) (bit_at_above w 64 i l h)
 
 -- the places of a word that another does not have
 pub bit_cleared : (w m i : ℕ) → w < 2 ^ 64 → m < 2 ^ 64 → bit (word_and w (2 ^ 64 - 1 - m)) i ≡ bit w i && not (bit m i)
@@ -78,11 +71,11 @@ bit_cleared w m i lw lm =
 
 pub bit_first : (w : ℕ) → bit w 0 ≡ eqb (w % 2) 1
 unfolding bit
-bit_first w = ap (λ n. eqb (n % 2) 1) (div-one w)
+bit_first w = ap (λ d. eqb d 1) (bit_at_lowest w)
 
 pub bit_later : (w i : ℕ) → bit w (suc i) ≡ bit (w / 2) i
 unfolding bit
-bit_later w i = ap (λ n. eqb (n % 2) 1) (ap (λ k. w / 2 ^ k) (sym (one-add i)) ∙ sym (shr-shr w 1 i))
+bit_later w i = ap (λ d. eqb d 1) (bit_at-suc w i)
 
 pub bit_shifted : (w i j : ℕ) → bit (w / 2 ^ i) j ≡ bit w (i + j)
 unfolding bit
@@ -90,18 +83,17 @@ bit_shifted w i j = ap (λ n. eqb (n % 2) 1) (shr-shr w i j)
 
 -- the word with its first k places set
 pub bit_all : (k i : ℕ) → bit (2 ^ k - 1) i ≡ ltb i k
-bit_all zero i = bit_zero i ∙ sym (le-ltb i 0 (omega arith))
-bit_all (suc k) zero =
-    let z : (2 ^ suc k - 1) % 2 ≡ 1 = omega (arith, pow-suc 2 k, pow_pos k) in
-    bit_first (2 ^ suc k - 1) ∙ ap (λ n. eqb n 1) z ∙ sym (lt-ltb 0 (suc k) (omega arith))
-bit_all (suc k) (suc i) =
-    let z : (2 ^ suc k - 1) / 2 ≡ 2 ^ k - 1 = omega (arith, pow-suc 2 k, pow_pos k) in
-    bit_later (2 ^ suc k - 1) i ∙ ap (λ n. bit n i) z ∙ bit_all k i ∙ ltb_alike i k (suc i) (suc k) (λ l. omega arith) (λ l. omega arith)
+unfolding bit
+bit_all k i =
+    ⊎_elim
+    (λ (l : i < k). ap (λ d. eqb d 1) (bit_at_ones k i l) ∙ sym (lt-ltb i k l))
+    (λ (l : k ≤ i). ap (λ d. eqb d 1) (bit_at_ones_above k i l) ∙ sym (le-ltb i k l))
+    (lt_or_ge i k)
 
 -- what a shift and a mask read
 pub bit_read : (w i : ℕ) → eqb (word_and (w / 2 ^ i) 1) 1 ≡ bit w i
 unfolding bit
-bit_read w i = ap (λ n. eqb n 1) (and_mask (w / 2 ^ i) 1)
+bit_read w i = ap (λ d. eqb d 1) (shr_and_one w i)
 
 -- a word cut at its first k places
 bit_within : (n k i : ℕ) → bit (n % 2 ^ k) i ≡ bit n i && ltb i k
@@ -126,14 +118,9 @@ bit_left w i j = bit_within (w * 2 ^ i) 64 j ∙ ap (λ b. b && ltb j 64) (bit_u
 
 -- the word with one place set
 pub bit_only : (i j : ℕ) → i < 64 → bit (1 * 2 ^ i % 2 ^ 64) j ≡ eqb i j
-bit_only i j l =
-    bit_left 1 i j ∙ ap (λ b. (leb i j && b) && ltb j 64) (bit_all 1 (j - i))
-    ∙ ⊎_elim
-    (λ (h : j < i). ap (λ b. (b && ltb (j - i) 1) && ltb j 64) (lt-leb i j h) ∙ sym (ne_eqb i j (λ e. omega arith)))
-    (λ (h : i ≤ j).
-    ap (λ b. (b && ltb (j - i) 1) && ltb j 64) (le-leb i j h)
-    ∙ ⊎_elim
-    (λ (e : i ≡ j). ap₂ (λ a b. a && b) (lt-ltb (j - i) 1 (omega arith)) (lt-ltb j 64 (omega arith)) ∙ sym (eq-eqb i j e))
-    (λ (m : i < j). ap (λ b. b && ltb j 64) (le-ltb (j - i) 1 (omega arith)) ∙ sym (ne_eqb i j (λ e. omega arith)))
-    (eq-or-lt_of_le h))
-    (lt_or_ge j i)
+unfolding bit
+bit_only i j l = ap (λ w. bit w j) (one_shl i 64 l) ∙ by (eqb j i) refl
+  where
+    by : (b : Bool) → eqb j i ≡ b → bit (2 ^ i) j ≡ eqb i j
+    by true e = ap (λ d. eqb (bit_at (2 ^ i) d) 1) (eqb-true j i e) ∙ ap (λ d. eqb d 1) (bit_at-pow_same i) ∙ sym (eq-eqb i j (sym (eqb-true j i e)))
+    by false e = ap (λ d. eqb d 1) (bit_at-pow_other i j (eqb-false j i e)) ∙ sym (ne_eqb i j (λ z. eqb-false j i e (sym z)))

@@ -53,14 +53,15 @@ pub fn without_least(word: u64) -> u64
 
 // The least place of a word from i up that is set.
 fn next_at(word: u64, i: usize) -> Option<usize>
-    requires { i ≤ most }
+    requires { i < 64 }
     ensures { NextOrNone 64 (bit word) i result }
 {
-    let rest = word.checked_shr(i as u32)?;
+    let rest = word >> i;
     if rest == 0 {
-        return None;
+        None
+    } else {
+        Some(i + least_at(rest))
     }
-    Some(i + least_at(rest))
 }
 
 // The low word has the numbers below 64, the high word those from 64 on. Two fields, so that an operation on one place tests which word it is in:
@@ -156,7 +157,12 @@ impl Set {
         requires { i ≤ most }
         ensures { NextOrNone most (has self) i result }
     {
-        let from = i.saturating_sub(WORD);
-        next_at(self.low, i).or_else(|| next_at(self.high, from).map(|place| WORD + place))
+        if i < WORD {
+            next_at(self.low, i).or_else(|| next_at(self.high, 0).map(|place| WORD + place))
+        } else if i < MOST {
+            next_at(self.high, i - WORD).map(|place| WORD + place)
+        } else {
+            None
+        }
     }
 }

@@ -1,5 +1,5 @@
 // Reading and ruling by the profile: after refusals 1 to 8 come 14, 15 and 16; all else is as without it.
-ghost use Rattle.std.specs.Prelude.{◌≡◌, length};
+ghost use Rattle.std.specs.Prelude.{◌≡◌, length, IfOk};
 ghost use Rattle.answer.specs.Answers.{counted};
 ghost use Rattle.answer.specs.Numbers.{answer_by};
 ghost use Rattle.encoding.specs.Layout.{count};
@@ -10,25 +10,26 @@ use crate::profile::check_profile;
 use answer::{Answer, JointRequest, Refused, clear};
 use encoding::layout::count_at;
 use ruling::{for_subjects, rule_accepted};
+use table::Table;
 use table::reading::read_conformance;
 
-// Checks a table by the profile: the first refusal, if any.
-fn check_standard(table: &[u8]) -> Result<(), Refused>
-    ensures { answer_by (λ _. counted (count table.now)) result ≡ reading_standard table.now }
+// Accepts a table by the profile, or gives its first refusal.
+fn accept_standard<'a>(bytes: &'a [u8]) -> Result<Table<'a>, Refused>
+    ensures value { answer_by (λ _. counted (count bytes.now)) result ≡ reading_standard bytes.now }
+    ensures same_bytes { IfOk result (λ table. table.bytes.now ≡ bytes.now) }
 {
-    if read_conformance(table)? {
-        Ok(())
-    } else {
-        check_profile(table)
+    if !read_conformance(bytes)? {
+        check_profile(bytes)?;
     }
+    Ok(Table { bytes })
 }
 
 // Reads a table by the profile: the number of its nodes, or the first refusal.
 pub fn read_standard(table: &[u8]) -> Answer
     ensures { result ≡ reading_standard table.now }
 {
-    match check_standard(table) {
-        Ok(()) => Answer::counted(count_at(table)),
+    match accept_standard(table) {
+        Ok(_) => Answer::counted(count_at(table)),
         Err(refused) => Answer::from(refused),
     }
 }
@@ -40,10 +41,10 @@ pub fn rule_standard(table: &[u8], request: JointRequest, cards: &mut [u16]) -> 
     ensures cards_after { cards.new ≡ ruled_list_standard table.now request.subjects request.others (length cards.old) }
 {
     clear(cards);
-    if let Err(refused) = check_standard(table) {
-        return Answer::from(refused);
-    }
-    let others = request.others;
-    let outcome = rule_accepted(table, request.subjects, &others, cards);
+    let accepted = match accept_standard(table) {
+        Ok(accepted) => accepted,
+        Err(refused) => return Answer::from(refused),
+    };
+    let outcome = rule_accepted(accepted, request.subjects, &request.others, cards);
     for_subjects(outcome, request.subjects)
 }

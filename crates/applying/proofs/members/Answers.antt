@@ -1,6 +1,6 @@
 -- `applying::members` meets its contract: of the nodes passed so far, those that apply in the field are in the set.
 use mathlib.Core.Path.{sym, ◌∙◌}
-use Prim.Native.Nat.{◌+◌, ◌<◌}
+use Prim.Native.Nat.{◌<◌}
 use Rattle.encoding.specs.Layout.{count}
 use Rattle.applying.proofs.FieldAlone.{node_in, nodes_out}
 use Rattle.std.proofs.Common.{arith}
@@ -18,4 +18,4 @@ loop-i-preserved-then-holds c =
 pub loop-i-preserved : goal.loop-i-preserved
 loop-i-preserved c =
     nodes_out c.args.table.now c.args.field c.args.value c.requires.well_formed c.loop-i.i (there (goal.at.loop-i-preserved c).In-loop-i) c.loop-i.set
-    (c.loop-i.i + c.span_at-i.result) (sym c.holds.ensures ∙ c.if-holds.false) (omega (arith, c.span_at-i.ensures.0)) c.loop-i.invariant
+    _ (sym c.holds.ensures ∙ c.if-holds.false) (omega (arith, c.span_at-i.ensures.0)) c.loop-i.invariant

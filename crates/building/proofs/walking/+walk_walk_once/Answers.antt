@@ -1,5 +1,5 @@
 -- `building::walking::walk` and `walk_once`, which call each other, meet their contracts: before a value, those below it are walked.
-use Rattle.std.proofs.Common.{◌≡◌, suc, arith, ℕ}
+use Rattle.std.proofs.Common.{◌≡◌, ◌∙◌, suc, arith, ℕ}
 use Rattle.sets.specs.Sets.{has}
 use Rattle.encoding.specs.Layout.{maximum}
 use Rattle.applying.specs.Members.{ruling_from}
@@ -23,21 +23,21 @@ run_of c =
 pub walk-returns-then-field-eq-FIELDS-clause-walks : goal.walk-returns-then-field-eq-FIELDS-clause-walks
 walk-returns-then-field-eq-FIELDS-clause-walks t c =
     walks_as
-    (walks_terminal (ruling_from c.args.table.now c.args.field (has c.args.possible)) (remembers_on c.args.table.now c.args.seen.now)
+    (walks_terminal (ruling_from c.args.table.now c.args.field (has c.args.possible)) (remembers_on c.args.table.now c.args.memory.now.seen)
     c.enter_ruling.ensures.bounded c.enter_ruling.ensures.standing)
     (λ es. walk_last c.args.table.now (has c.args.possible) c.args.field es (omega arith))
 
-pub walk-maximum_at-most-requires : goal.walk-maximum_at-most-requires
-walk-maximum_at-most-requires t c = (header_there c.args.table.now c.requires.well_formed.0, omega arith)
+pub walk-maximum_at-requires : goal.walk-maximum_at-requires
+walk-maximum_at-requires t c = (header_there c.args.table.now c.requires.well_formed.0, omega arith)
 
 pub walk-loop-value-init : goal.walk-loop-value-init
 walk-loop-value-init t c = record {
   inside = omega arith;
-  most_is = c.maximum_at-most.ensures;
+  most_is = c.from-most.ensures ∙ c.maximum_at.ensures;
   most_small = omega arith;
   near_small = tt;
   before =
-      before_first _ (level_deep c.args.table.now c.args.field (omega arith)) c.requires.room.0 c.told-edges c.clear.ensures
+      before_first _ (level_deep c.args.table.now c.args.field (omega arith)) c.requires.room.0 (omega arith) c.clear.ensures
       (λ es h. (h.0, (h.1, tt)));
 }
 
@@ -51,11 +51,11 @@ walk-walk_once-requires t c =
       ),
     )
 
-pub walk-returns-in_err-under-clause-walks : goal.walk-returns-in_err-under-clause-walks
-walk-returns-in_err-under-clause-walks t c =
-    let run = run_of (goal.at.walk-returns-in_err-under-clause-walks t c).After-run_end-until in
+pub walk-returns-in_err-place-clause-walks : goal.walk-returns-in_err-place-clause-walks
+walk-returns-in_err-place-clause-walks t c =
+    let run = run_of (goal.at.walk-returns-in_err-place-clause-walks t c).After-run_end-until in
     rw c.from_residual.ensures
-    (walks_as (value_full c.loop-value.invariant.before (walks_value run c.in_err-under.ensures.walks) run.more)
+    (walks_as (value_full c.loop-value.invariant.before (walks_value run c.in_err-place.ensures.walks) run.more)
     (λ es. walk_field c.args.table.now (has c.args.possible) c.args.field es c.loop-value.invariant.inside))
 
 pub walk-overflow_cast-until : goal.walk-overflow_cast-until
@@ -72,7 +72,7 @@ pub walk-loop-value-preserved : goal.walk-loop-value-preserved
 walk-loop-value-preserved t c =
     let run = run_of (goal.at.walk-loop-value-preserved t c).After-run_end-until in
     let i = c.loop-value.invariant in
-    let x = c.in_ok-under in record {
+    let x = c.in_ok-place in record {
       inside = i.inside;
       most_is = i.most_is;
       most_small = i.most_small;
@@ -80,7 +80,7 @@ walk-loop-value-preserved t c =
       before =
           value_next i.before (walks_value run x.ensures.walks) run.more c.run_end-until.result run.far (run_alike run)
           c.walk_once.auto.diagram x.ensures.edges_kept (omega arith) _ c.extend.ensures.upper_bound c.extend.ensures.result_after
-          (λ xs at s. (s, value_near run x.under.place xs at));
+          (λ xs at s. (s, value_near run x.place xs at));
     }
 
 pub walk-returns-clause-walks : goal.walk-returns-clause-walks
@@ -88,7 +88,7 @@ walk-returns-clause-walks t c =
     let i = c.loop-value.invariant in
     let done : c.loop-value.value ≡ suc (maximum c.args.table.now c.args.field) = omega (arith, i.before.reached, i.most_is) in
     walks_as
-    (values_done i.before done (λ es r. r.0) (remembers_on c.args.table.now c.loop-value.seen) c.enter_node.ensures.bounded
+    (values_done i.before done (λ es r. r.0) (remembers_on c.args.table.now c.loop-value.memory.seen) c.enter_node.ensures.bounded
     c.enter_node.ensures.standing)
     (λ es. walk_field c.args.table.now (has c.args.possible) c.args.field es i.inside)
 
@@ -96,5 +96,5 @@ walk-returns-clause-walks t c =
 
 pub walk_once-returns-clause-walks : goal.walk_once-returns-clause-walks
 walk_once-returns-clause-walks t c =
-    walked_noted c.args.table.now c.args.field c.args.possible c.args.near c.args.seen.now c.walk.new.seen c.in_ok-step.ensures.walks
+    walked_noted c.args.table.now c.args.field c.args.possible c.args.near c.args.memory.now.seen c.walk.new.memory.seen c.in_ok-place.ensures.walks
     c.slot_of-slot.result c.remember.ensures

@@ -23,8 +23,9 @@ invariant-walk-loop-value l = record {
   most_is : l.most ≡ maximum l.table l.field;
   most_small : l.most ≤ 255;
   near_small : IfSome l.near (λ known. known.place < most_places);
-  before : Before (level_by l.table l.field (has l.possible)) (Held (Remembers l.table l.initial.seen) l.initial.diagram l.initial.index l.end)
-      (RemembersNear l.table l.seen (l.field + 1) l.near) (length l.initial.diagram) l.fn.edges l.diagram l.index l.edges l.at l.value;
+  before : Before (level_by l.table l.field (has l.possible)) (Held (Remembers l.table l.initial.memory.seen) l.initial.diagram l.initial.memory.index.slots l.initial.memory.index.end)
+      (RemembersNear l.table l.memory.seen (l.field + 1) l.near) (length l.initial.diagram) l.fn.memory.edges l.diagram l.memory.index.slots l.memory.edges
+      l.memory.index.end l.value;
 }
 
 abbrev pub decreases-walk-loop-value : goal.decreases-walk-loop-value

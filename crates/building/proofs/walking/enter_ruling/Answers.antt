@@ -22,5 +22,5 @@ pub returns : goal.returns
 returns c = record {
   bounded = c.enter_terminal.ensures.bounded;
   standing = ruling_entered c.args.table.now (has c.args.applying) (zeros 127) c.rule_set-ruled.new.list c.rule_set-ruled.result.decision c.rule_set-ruled.result.count c.requires.well_formed.0 refl c.rule_set-ruled.ensures.decision_value.0 c.rule_set-ruled.ensures.decision_value.1 c.rule_set-ruled.ensures.list_after
-      c.args.diagram.now c.args.index.now c.enter_terminal.new.diagram c.enter_terminal.new.index c.args.end c.enter_terminal.result c.enter_terminal.ensures.standing;
+      c.args.diagram.now c.args.index.now.slots c.enter_terminal.new.diagram c.enter_terminal.new.self.slots c.args.index.now.end c.enter_terminal.new.self.end c.enter_terminal.result c.enter_terminal.ensures.standing;
 }

@@ -18,7 +18,18 @@ walk-requires c = record {
   room = (c.requires.room, omega arith);
 }
 
+pub returns-in_err-place : goal.returns-in_err-place
+returns-in_err-place c =
+    let d = c.args.diagram.now in
+    let walks =
+    all_walked c.args.table.now c.requires.well_formed c.full.result c.full.ensures (length d) 701 d (zeros 8192) c.requires.diagram_value c.requires.room.1
+    none_indexed c.in_err-place.ensures.walks in
+    rw c.from_residual.ensures (c.walk.new.memory.index.slots, c.walk.new.memory.index.end, walks)
+
 pub returns : goal.returns
-returns c = let d = c.args.diagram.now in
-    all_walked c.args.table.now c.requires.well_formed c.full.result c.full.ensures (length d) 701 d (zeros 8192) c.requires.diagram_value c.requires.room.1 none_indexed
-    c.walk.ensures.walks
+returns c =
+    let d = c.args.diagram.now in (
+      c.walk.new.memory.index.slots,
+      all_walked c.args.table.now c.requires.well_formed c.full.result c.full.ensures (length d) 701 d (zeros 8192) c.requires.diagram_value c.requires.room.1
+          none_indexed c.in_ok-place.ensures.walks,
+    )

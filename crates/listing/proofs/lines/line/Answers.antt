@@ -67,9 +67,6 @@ put_path-place-requires c =
       room_for = room_first c.args.text.now.bytes.now c.args.text.now.end (ranges (path_of d q)) (word d q ++ (cards d q ++ newline ∷ [])) (room (goal.at.put_path-place-requires c).Start c.type_inv.diagram);
     }
 
-pub overflow_cast-diagram : goal.overflow_cast-diagram
-overflow_cast-diagram c = omega (arith, c.put_path-place.ensures.landed.one_of_four)
-
 pub put_decision-requires : goal.put_decision-requires
 put_decision-requires c =
     let d = c.args.diagram.now in

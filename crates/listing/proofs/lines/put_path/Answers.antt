@@ -2,10 +2,10 @@
 use Rattle.std.proofs.Common.{◌≡◌, ◌∙◌, ◌+◌, ◌≤◌, refl, sym, ap, [], ◌∷◌, ◌++◌, length, drop, arith}
 use Rattle.answer.specs.Fields.{fields}
 use Rattle.answer.specs.Requests.{value}
-use Rattle.diagram.proofs.Descent.{EdgeAsked, down_none, edge_asked, down_more, landed}
+use Rattle.diagram.proofs.Descent.{EdgeAsked, edge_asked, down_more, landed}
 use Rattle.diagram.specs.Layout.{child_at}
 use Rattle.listing.proofs.PathRanges.{ranges_next, ranges_end}
-use Rattle.listing.proofs.Writing.{Partly, partly_none, partly_first, partly_more, partly_all}
+use Rattle.listing.proofs.Writing.{Partly, partly_first, partly_more, partly_all}
 use Rattle.listing.specs.Paths.{path_from, path_of}
 use Rattle.listing.specs.Text.{space, range, ranges}
 use Rattle.listing.proofs.lines.put_path.Goals as goal
@@ -30,17 +30,6 @@ next : (c : After-from) → let d = c.args.diagram.now in let p = c.loop-value.p
 next c =
     let long : length c.args.values ≡ fields = omega arith in
     ranges_next c.args.diagram.now c.args.values c.loop-value.place c.loop-value.value-index _ c.edge_of-edge.result c.first_of-low.result c.from.result (omega (arith, long, c.loop-value-test.true)) refl c.edge_of-edge.ensures.0 c.first_of-low.ensures.0 c.from.ensures
-
-pub bounds-diagram-1 : goal.bounds-diagram-1
-bounds-diagram-1 c = omega (arith, c.requires.sound.header_there)
-
-pub loop-value-init : goal.loop-value-init
-loop-value-init c =
-    let d = c.args.diagram.now in
-    let q = c.args.values in (
-      down_none d c.requires.sound q c.requires.within _ c.from-place.ensures,
-      partly_none (ap (λ p. ranges (path_from d p q)) c.from-place.ensures),
-    )
 
 pub edge_of-edge-requires : goal.edge_of-edge-requires
 edge_of-edge-requires c =

@@ -34,16 +34,6 @@ loop-following-init c =
     let n : length c.args.values ≡ fields = omega arith in
     filling_none (n, c.requires.within) c.requires.line_fits
 
-pub line-requires : goal.line-requires
-line-requires c = record {
-  sound = c.requires.sound;
-  within = c.loop-following.invariant.request.1;
-  line_fits = c.loop-following.invariant.room;
-}
-
-pub next-requires : goal.next-requires
-next-requires c = record { sound = c.requires.sound; within = c.loop-following.invariant.request.1 }
-
 pub returns-in_default : goal.returns-in_default
 returns-in_default c =
     let n = (goal.at.returns-in_default c).After-next in

@@ -13,8 +13,8 @@ decreases-rule_run l = 2 * (l.end - l.first) + 1
 
 abbrev pub invariant-rule_run-loop-i : goal.invariant-rule_run-loop-i
 invariant-rule_run-loop-i l = record {
-  before : Before (applies_to_some l.table l.members l.others) l.table l.kind l.first l.end l.before l.initial.cards l.i l.running l.count l.cards;
-  passes : MembersPass l.table l.members l.others l.i;
+  before : Before (applies_to_some l.table.bytes.now l.members l.others) l.table.bytes.now l.kind l.first l.end l.before l.initial.cards l.i l.running l.count l.cards;
+  passes : MembersPass l.table.bytes.now l.members l.others l.i;
 }
 
 abbrev pub decreases-rule_run-loop-i : goal.decreases-rule_run-loop-i

@@ -51,12 +51,12 @@ module _ (t : List ℕ) (w : WellFormed t) (others : List ℕ) (s left : ℕ)
       ((r.0, all.0), all.1)
 
 pub members_left-left-requires : goal.members_left-left-requires
-members_left-left-requires c = held c.args.table.now c.requires 0 c.requires.some
+members_left-left-requires c = held c.args.table.bytes.now c.args.table.accepted 0 c.args.table.accepted.some
 
 pub returns-then-left-eq0 : goal.returns-then-left-eq0
 returns-then-left-eq0 c =
-    let t = c.args.table.now in
-    let w = c.requires in
+    let t = c.args.table.bytes.now in
+    let w = c.args.table.accepted in
     let which = applies_to_some t c.args.subjects c.args.others.now in
     let list = c.args.cards.now in
     let out : (j : ℕ) → 0 ≤ j → j < count t → which j ≡ false =
@@ -68,53 +68,53 @@ returns-then-left-eq0 c =
     }
 
 pub count_at-count-requires : goal.count_at-count-requires
-count_at-count-requires c = header_held c.args.table.now c.requires.records
+count_at-count-requires c = header_held c.args.table.bytes.now c.args.table.accepted.records
 
 pub kind_at-kind-requires : goal.kind_at-kind-requires
-kind_at-kind-requires c = held c.args.table.now c.requires 0 c.requires.some
+kind_at-kind-requires c = held c.args.table.bytes.now c.args.table.accepted 0 c.args.table.accepted.some
 
 -- once the count is read: the root is ruled for those that are left
 root_node : (c : After-count_at-count) →
-    Node (applies_to_some c.args.table.now c.members_left-left.result c.args.others.now) c.args.table.now 0 c.count_at-count.result 0
+    Node (applies_to_some c.args.table.bytes.now c.members_left-left.result c.args.others.now) c.args.table.bytes.now 0 c.count_at-count.result 0
 root_node c =
-    node c.args.table.now c.requires c.args.others.now c.args.subjects c.members_left-left.result c.members_left-left.ensures
+    node c.args.table.bytes.now c.args.table.accepted c.args.others.now c.args.subjects c.members_left-left.result c.members_left-left.ensures
     c.count_at-count.result c.count_at-count.ensures.0 (omega arith) (omega (arith, c.if-left-eq0.false))
 
 -- what it gives and gathers for them is what the groups give the whole set
 as_whole : (c : After-count_at-count) {d n : ℕ} {after : List ℕ} →
-    let t = c.args.table.now in
+    let t = c.args.table.bytes.now in
     let left = applies_to_some t c.members_left-left.result c.args.others.now in
     let all = applies_to_some t c.args.subjects c.args.others.now in
     (d ≡ decision left t 0) × Gathered left t 0 c.count_at-count.result 0 n c.args.cards.now after →
     ((d ≡ decision all t 0) × (n ≡ length (cards all t))) × (after ≡ sets c.args.cards.now 0 (cards all t))
 as_whole c =
-    whole c.args.table.now c.requires c.args.others.now c.args.subjects c.members_left-left.result c.members_left-left.ensures
+    whole c.args.table.bytes.now c.args.table.accepted c.args.others.now c.args.subjects c.members_left-left.result c.members_left-left.ensures
     c.count_at-count.result c.count_at-count.ensures.0
 
 pub rule_run-requires : goal.rule_run-requires
 rule_run-requires c =
-    let t = c.args.table.now in
+    let t = c.args.table.bytes.now in
     let others = c.args.others.now in
     let left = c.members_left-left.result in
     record {
-      well_formed = (c.requires, c.ways-ways.ensures);
+      combines = c.ways-ways.ensures;
       child_run = (
-        children (applies_to_some t left others) t c.requires 0 c.count_at-count.result 0 (root_node (goal.at.rule_run-requires c).After-count_at-count),
+        children (applies_to_some t left others) t c.args.table.accepted 0 c.count_at-count.result 0 (root_node (goal.at.rule_run-requires c).After-count_at-count),
         omega arith,
       );
       members_pass =
-          members_down t others left 0 (each t c.requires others c.args.subjects left c.members_left-left.ensures c.count_at-count.result c.count_at-count.ensures.0);
+          members_down t others left 0 (each t c.args.table.accepted others c.args.subjects left c.members_left-left.ensures c.count_at-count.result c.count_at-count.ensures.0);
     }
 
 pub rule_match-requires : goal.rule_match-requires
-rule_match-requires c = (held c.args.table.now c.requires 0 c.requires.some, omega arith)
+rule_match-requires c = (held c.args.table.bytes.now c.args.table.accepted 0 c.args.table.accepted.some, omega arith)
 
 pub returns-in-0-to-3 : goal.returns-in-0-to-3
 returns-in-0-to-3 c =
     let p = (goal.at.returns-in-0-to-3 c).After-count_at-count in
     let r =
     as_whole p
-    (by_group (applies_to_some c.args.table.now c.members_left-left.result c.args.others.now) c.args.table.now c.requires (root_node p) c.kind_at-kind.ensures
+    (by_group (applies_to_some c.args.table.bytes.now c.members_left-left.result c.args.others.now) c.args.table.bytes.now c.args.table.accepted (root_node p) c.kind_at-kind.ensures
     (omega arith) c.rule_run.ensures.decision_value c.rule_run.ensures.gathered) in
     record { decision_value = r.0; cards_after = r.1 }
 
@@ -123,6 +123,6 @@ returns-in_default c =
     let p = (goal.at.returns-in_default c).After-count_at-count in
     let r =
     as_whole p
-    (by_rule (applies_to_some c.args.table.now c.members_left-left.result c.args.others.now) c.args.table.now c.requires (root_node p) c.kind_at-kind.ensures
+    (by_rule (applies_to_some c.args.table.bytes.now c.members_left-left.result c.args.others.now) c.args.table.bytes.now c.args.table.accepted (root_node p) c.kind_at-kind.ensures
     (omega arith) c.rule_match.ensures.decision_value.0 c.rule_match.ensures.decision_value.1 c.rule_match.ensures.cards_after) in
     record { decision_value = r.0; cards_after = r.1 }

@@ -23,31 +23,31 @@ abbrev answered : Refused → Answer
 answered r = refused (number_of r.refusal) r.place
 
 -- whether 13 applies, by the maxima that were read
-by_subjects : (c : After-subjects_fault) → c.subjects_fault.result ≡ subjects_fault (maximum c.args.table.now 0) c.args.subjects
+by_subjects : (c : After-subjects_fault) → c.subjects_fault.result ≡ subjects_fault (maximum c.args.table.bytes.now 0) c.args.subjects
 by_subjects c =
-    let read = ap (λ ms. get_or ms 0 0) c.maxima_at-maxima.ensures ∙ maxima_each c.args.table.now 0 (omega arith) in
+    let read = ap (λ ms. get_or ms 0 0) c.maxima_at-maxima.ensures ∙ maxima_each c.args.table.bytes.now 0 (omega arith) in
     c.subjects_fault.ensures ∙ ap (λ m. subjects_fault m c.args.subjects) read
 
 -- the first field, after the subjects', whose value is over its maximum, by the maxima that were read
 by_values : (c : After-subjects_fault) →
-    field_fault (value c.maxima_at-maxima.result) (0 ∷ c.args.others.now) 1 ≡ field_fault (maximum c.args.table.now) (0 ∷ c.args.others.now) 1
-by_values c = maxima_fault c.args.table.now c.maxima_at-maxima.result (0 ∷ c.args.others.now) 1 (omega arith) c.maxima_at-maxima.ensures
+    field_fault (value c.maxima_at-maxima.result) (0 ∷ c.args.others.now) 1 ≡ field_fault (maximum c.args.table.bytes.now) (0 ∷ c.args.others.now) 1
+by_values c = maxima_fault c.args.table.bytes.now c.maxima_at-maxima.result (0 ∷ c.args.others.now) 1 (omega arith) c.maxima_at-maxima.ensures
 
 -- where no field is at fault
-none_at_fault : (c : In_default) → fields ≤ field_fault (maximum c.args.table.now) (0 ∷ c.args.others.now) 1
+none_at_fault : (c : In_default) → fields ≤ field_fault (maximum c.args.table.bytes.now) (0 ∷ c.args.others.now) 1
 none_at_fault c =
     omega (
       arith,
       found_none _ (sym c.in_default.is ∙ c.field_fault.ensures),
-      maxima_fault c.args.table.now c.maxima_at-maxima.result (0 ∷ c.args.others.now) 1 (omega arith) c.maxima_at-maxima.ensures,
+      maxima_fault c.args.table.bytes.now c.maxima_at-maxima.result (0 ∷ c.args.others.now) 1 (omega arith) c.maxima_at-maxima.ensures,
     )
 
 pub maxima_at-maxima-requires : goal.maxima_at-maxima-requires
-maxima_at-maxima-requires c = header_held c.args.table.now c.requires.well_formed.0.records
+maxima_at-maxima-requires c = header_held c.args.table.bytes.now c.args.table.accepted.records
 
 pub returns-then-subjects_fault : goal.returns-then-subjects_fault
 returns-then-subjects_fault c =
-    let t = c.args.table.now in
+    let t = c.args.table.bytes.now in
     let others = c.args.others.now in
     let s = c.args.subjects in
     let fault = by_subjects (goal.at.returns-then-subjects_fault c).After-subjects_fault in
@@ -58,7 +58,7 @@ returns-then-subjects_fault c =
 
 pub returns-in-Some : goal.returns-in-Some
 returns-in-Some c =
-    let t = c.args.table.now in
+    let t = c.args.table.bytes.now in
     let others = c.args.others.now in
     let s = c.args.subjects in
     let p = (goal.at.returns-in-Some c).After-subjects_fault in
@@ -69,12 +69,9 @@ returns-in-Some c =
     (ap answered c.at-in-Some.ensures) c.requires.cards_value in
     record { value = r.0; cards_after = r.1 }
 
-pub rule_read-root-requires : goal.rule_read-root-requires
-rule_read-root-requires c = c.requires.well_formed.0
-
 pub returns-then-cards-root : goal.returns-then-cards-root
 returns-then-cards-root c =
-    let t = c.args.table.now in
+    let t = c.args.table.bytes.now in
     let others = c.args.others.now in
     let s = c.args.subjects in
     let p = goal.at.returns-then-cards-root c in
@@ -89,7 +86,7 @@ returns-then-cards-root c =
 
 pub returns : goal.returns
 returns c =
-    let t = c.args.table.now in
+    let t = c.args.table.bytes.now in
     let others = c.args.others.now in
     let s = c.args.subjects in
     let given = groups_together t s others in

@@ -1,11 +1,8 @@
 -- `listing::text::Text::put_all` meets its contract: the bytes before the next are written.
-use Rattle.std.proofs.Common.{refl, [], ◌∷◌, get_or}
-use Rattle.listing.proofs.Writing.{partly_none, partly_first, partly_more, partly_all}
-use Rattle.listing.proofs.Parts.{next_left, none_left}
+use Rattle.std.proofs.Common.{[], ◌∷◌, get_or}
+use Rattle.listing.proofs.Writing.{partly_first, partly_more}
+use Rattle.listing.proofs.Parts.{next_left}
 use Rattle.listing.proofs.text.Text.put_all.Goals as goal
-
-pub loop-byte-init : goal.loop-byte-init
-loop-byte-init c = partly_none refl
 
 pub put-requires : goal.put-requires
 put-requires c =
@@ -15,6 +12,3 @@ put-requires c =
 
 pub loop-byte-preserved : goal.loop-byte-preserved
 loop-byte-preserved c = partly_more c.loop-byte.invariant (next_left c.args.bytes.now c.loop-byte.byte-index c.loop-byte-test.true) c.put.ensures
-
-pub returns : goal.returns
-returns c = partly_all c.loop-byte.invariant (none_left c.args.bytes.now c.loop-byte.byte-index c.loop-byte-test.false)

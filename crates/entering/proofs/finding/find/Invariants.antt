@@ -1,6 +1,0 @@
--- `entering::finding::find` meets its contract: the slots tried so far hold places of other entries.
-use Rattle.entering.proofs.Indexing.{Tried}
-use Rattle.entering.proofs.finding.find.Given as goal
-
-abbrev pub invariant-loop-tried : goal.invariant-loop-tried
-invariant-loop-tried l = Tried l.diagram l.end l.index l.entry l.tried

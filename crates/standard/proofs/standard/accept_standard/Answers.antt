@@ -1,0 +1,29 @@
+-- `standard::standard::accept_standard` meets its contract: a table that is refused without the profile, one that conforms, or what the
+-- profile refuses.
+use Rattle.std.proofs.Common.{sym, ◌∙◌}
+use Rattle.std.proofs.lemmas.Result.{err_from_is_err_and}
+use borrow.Author.Tests.{not-false}
+use Rattle.table.specs.Reading.{Accepted}
+use Rattle.table.proofs.Accepting.{counted_accepted}
+use Rattle.table.proofs.AcceptedIsWellFormed.{well_formed}
+use Rattle.standard.proofs.Accepting.{standard_refused, standard_after, standard_counted}
+use Rattle.standard.proofs.ConformingIsStandard.{conforming_standard}
+use Rattle.standard.proofs.standard.accept_standard.Goals as goal
+use Rattle.standard.proofs.standard.accept_standard.Goals.{In_ok-read_conformance}
+
+table_accepted : (c : In_ok-read_conformance) → Accepted c.args.bytes.now
+table_accepted c = counted_accepted c.args.bytes.now c.in_ok-read_conformance.ensures.value
+
+pub returns-in_err-read_conformance-clause-value : goal.returns-in_err-read_conformance-clause-value
+returns-in_err-read_conformance-clause-value c =
+    let p = err_from_is_err_and c.from_residual.result c.from_residual.ensures.1 in
+    rw (p.1, p.2) (standard_refused c.args.bytes.now _ c.in_err-read_conformance.ensures.value)
+
+pub check_profile-requires : goal.check_profile-requires
+check_profile-requires c = well_formed c.args.bytes.now (table_accepted (goal.at.check_profile-requires c).In_ok-read_conformance)
+
+pub returns-in_err-check_profile-clause-value : goal.returns-in_err-check_profile-clause-value
+returns-in_err-check_profile-clause-value c = ?
+
+pub returns-clause-value : goal.returns-clause-value
+returns-clause-value c = ?
