@@ -10,7 +10,7 @@ use Rattle.answer.specs.Refusals.{Refusal, row, upward, None, First}
 use Rattle.answer.specs.Numbers.{number_of}
 use Rattle.answer.specs.declared.refusal.Refused.{Refused}
 use Rattle.answer.proofs.Numbers.{number_positive}
-use Rattle.answer.proofs.Settling.{all_join, all_parts, all_upward, upward_all, first_in, first_after, settled_first, settled_none, settled_after, Numbered, number_none, number_first}
+use Rattle.answer.proofs.Settling.{all_join, all_parts, all_upward, upward_all, first_in, settled_first, settled_none, settled_after, Numbered, number_none, number_first}
 use Rattle.encoding.specs.Layout.{count}
 use Rattle.table.specs.Reading.{table_refusals, reading, Accepted}
 use Rattle.table.proofs.Accepting.{read_refused, table_numbered}

@@ -1,20 +1,19 @@
 -- The profile accepts an accepted table exactly where it conforms: each node is a rule or a group, as is asked for where it stands.
 use mathlib.Core.Path.{◌≡◌, refl, sym, ap, ◌∙◌}
-use mathlib.Core.Bool.{Bool, true, false, beq, not, cond, true≢false, ◌&&◌}
+use mathlib.Core.Bool.{Bool, true, false, beq, not, cond, true≢false}
 use mathlib.Core.Logic.{⊎_elim}
 use mathlib.Core.List.{List, ◌++◌}
 use Prim.Native.Nat.{ℕ, ◌+◌, ◌<◌}
 use native.Mathlib.Nat.{eq-zero-or-pos}
 use native.Mathlib.Omega.{arith}
 use borrow.Author.Tests.{ne_eqb, not-false}
-use lib.Dec.{eqb}
 use Rattle.answer.proofs.Below.{every_true, every_each}
 use Rattle.answer.proofs.Settling.{all_join, all_upward}
 use Rattle.answer.proofs.Tests.{and_true, and_false}
 use Rattle.combining.specs.Ways.{any}
 use Rattle.encoding.specs.Layout.{count}
 use Rattle.table.specs.Tree.{is_rule, parent}
-use Rattle.table.specs.Reading.{table_refusals, reading, Accepted}
+use Rattle.table.specs.Reading.{table_refusals, Accepted}
 use Rattle.table.specs.Conformance.{asks_for_rules, rule_asked, node_conforms, conforms}
 use Rattle.table.proofs.AcceptedIsWellFormed.{well_formed}
 use Rattle.table.proofs.Tree.{parent_below}
