@@ -10,6 +10,7 @@ use Rattle.table.proofs.AcceptedIsWellFormed.{well_formed}
 use Rattle.attaching.specs.Attached.{attached_bytes, fit_refusals}
 use Rattle.attaching.proofs.AttachAnswers.{base_refused, expansion_refused, fit_refused, none_refused, too_short, written}
 use Rattle.answer.specs.Numbers.{number_of}
+use Rattle.answer.proofs.Numbers.{number_positive}
 use Rattle.std.proofs.Common.{◌≡◌, arith, rules}
 use Rattle.attaching.proofs.attaching.attach.Goals as goal
 use Rattle.attaching.proofs.attaching.attach.Goals.{After-fill, Else-reading-ne0, Else-reading-ne0-2, In_default}
@@ -54,6 +55,7 @@ returns-in-Some c =
     let b = base_accepted s.Else-reading-ne0 in
     let e = expansion_accepted s.Else-reading-ne0-2 in
     let t = fit_refused c.args.base.now c.args.expansion.now (length c.args.table.now) b e _ c.from.result c.fill.new.self c.in-Some.ensures
+    (λ z. omega (arith, z, number_positive c.in-Some.refusal))
     (c.from.ensures ∙ ap (λ r. refused (number_of r.refusal) r.place) c.at.ensures) (cleared s.After-fill) in
     record { value = t.0; table_after = t.1 }
 
