@@ -3,13 +3,13 @@ ghost use Rattle.std.specs.Prelude.{◌≡◌, not, cond, ◌&&◌, ◌+◌, ◌
 ghost use Rattle.answer.specs.Answers.{counted};
 ghost use Rattle.answer.specs.Numbers.{answer_by};
 ghost use Rattle.encoding.specs.Layout.{count};
-ghost use Rattle.table.specs.WellFormed.{WellFormed};
 ghost use Rattle.standard.specs.Profile.{profiled};
 ghost use Rattle.standard.specs.Pass.{rules_on, groups_on, FoundFrom};
 
 use answer::{Refusal, Refused};
 use combining::Kind;
 use encoding::layout::{NODES, count_at, kind_at, span_at};
+use table::Table;
 use table::reading::rule_at;
 
 // How many rules and how many groups stand on a row from some node on. A row goes on past the end of the parent: a group holds what stands
@@ -72,15 +72,15 @@ fn with_rule(after: Found) -> Found
 }
 
 // With node i, where the rows of all nodes after it are known.
-fn with_node(table: &[u8], i: usize, rows: &[Row; NODES + 1], after: Found) -> Found
-    requires well_formed { WellFormed table.now × (i < count table.now) }
-    requires found_from { FoundFrom table.now (i + 1) (rules_on rows.now) (groups_on rows.now) after }
-    ensures { FoundFrom table.now i (set (rules_on rows.now) i result.row.rules) (set (groups_on rows.now) i result.row.groups) result }
+fn with_node(table: Table, i: usize, rows: &[Row; NODES + 1], after: Found) -> Found
+    requires i_bound { i < count table.bytes.now }
+    requires found_from { FoundFrom table.bytes.now (i + 1) (rules_on rows.now) (groups_on rows.now) after }
+    ensures { FoundFrom table.entry.bytes.now i (set (rules_on rows.now) i result.row.rules) (set (groups_on rows.now) i result.row.groups) result }
 {
-    let kind = kind_at(table, i);
+    let kind = kind_at(table.bytes, i);
     match kind {
         Kind::FIRST_APPLICABLE..=Kind::DENY_OVERRIDES => {
-            let end = rows[i + span_at(table, i)];
+            let end = rows[i + span_at(table.bytes, i)];
             with_group(i, kind == Kind::ONLY_ONE_APPLICABLE, end, after)
         }
         _ => with_rule(after),
@@ -88,11 +88,10 @@ fn with_node(table: &[u8], i: usize, rows: &[Row; NODES + 1], after: Found) -> F
 }
 
 // Checks an accepted table by the profile: the first of refusals 14, 15 and 16, if any.
-pub(crate) fn check_profile(table: &[u8]) -> Result<(), Refused>
-    requires { WellFormed table.now }
-    ensures { answer_by (λ _. counted (count table.now)) result ≡ profiled table.now }
+pub(crate) fn check_profile(table: Table) -> Result<(), Refused>
+    ensures { answer_by (λ _. counted (count table.entry.bytes.now)) result ≡ profiled table.entry.bytes.now }
 {
-    let n = count_at(table);
+    let n = count_at(table.bytes);
     let none = Row {
         rules: 0,
         groups: 0,
@@ -111,7 +110,7 @@ pub(crate) fn check_profile(table: &[u8]) -> Result<(), Refused>
         Err(Refusal::MixedGroup.at(node))
     } else if let Some(node) = found.in_only_one {
         Err(Refusal::RuleInOnlyOne.at(node))
-    } else if rule_at(table, 0) {
+    } else if rule_at(table.bytes, 0) {
         Err(Refusal::RuleAsRoot.at(0))
     } else {
         Ok(())

@@ -18,10 +18,12 @@ fn accept_standard<'a>(bytes: &'a [u8]) -> Result<Table<'a>, Refused>
     ensures value { answer_by (λ _. counted (count bytes.now)) result ≡ reading_standard bytes.now }
     ensures same_bytes { IfOk result (λ table. table.bytes.now ≡ bytes.now) }
 {
-    if !read_conformance(bytes)? {
-        check_profile(bytes)?;
+    let conforming = read_conformance(bytes)?;
+    let table = Table { bytes };
+    if !conforming {
+        check_profile(table)?;
     }
-    Ok(Table { bytes })
+    Ok(table)
 }
 
 // Reads a table by the profile: the number of its nodes, or the first refusal.

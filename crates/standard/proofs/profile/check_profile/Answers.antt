@@ -20,14 +20,14 @@ whole {t} {i} {rules} {groups} {found} h l =
     subst (λ j. FoundFrom t j rules groups found) e h
 
 pub count_at-n-requires : goal.count_at-n-requires
-count_at-n-requires c = header_held c.args.table.now c.requires.records
+count_at-n-requires c = header_held c.args.table.bytes.now c.args.table.accepted.records
 
 pub loop-i-init : goal.loop-i-init
-loop-i-init c = found_none c.args.table.now 129 (omega (arith, c.requires.few)) c.count_at-n.result c.count_at-n.ensures.0 _ refl refl refl refl
+loop-i-init c = found_none c.args.table.bytes.now 129 (omega (arith, c.args.table.accepted.few)) c.count_at-n.result c.count_at-n.ensures.0 _ refl refl refl refl
 
 pub with_node-found-requires : goal.with_node-found-requires
 with_node-found-requires c = record {
-  well_formed = (c.requires, omega (arith, c.count_at-n.ensures.0, c.loop-i-test.true));
+  i_bound = omega (arith, c.count_at-n.ensures.0, c.loop-i-test.true);
   found_from = after c.loop-i.invariant (omega (arith, c.loop-i-test.true));
 }
 
@@ -37,25 +37,25 @@ loop-i-preserved c =
     c.with_node-found.ensures
 
 pub rule_at-requires : goal.rule_at-requires
-rule_at-requires c = node_held c.args.table.now c.requires.records 0 c.requires.some
+rule_at-requires c = node_held c.args.table.bytes.now c.args.table.accepted.records 0 c.args.table.accepted.some
 
 pub returns-in-Some : goal.returns-in-Some
 returns-in-Some c =
-    rw c.at.ensures (found_mixed c.args.table.now (whole c.loop-i.invariant (omega (arith, c.loop-i-test.false))) c.in-Some.node c.in-Some.is)
+    rw c.at.ensures (found_mixed c.args.table.bytes.now (whole c.loop-i.invariant (omega (arith, c.loop-i-test.false))) c.in-Some.node c.in-Some.is)
 
 pub returns-in-Some-in_only_one : goal.returns-in-Some-in_only_one
 returns-in-Some-in_only_one c =
     rw c.at-in-Some-in_only_one.ensures
-    (found_in_only_one c.args.table.now (whole c.loop-i.invariant (omega (arith, c.loop-i-test.false))) c.in_default.is c.in-Some-in_only_one.node
+    (found_in_only_one c.args.table.bytes.now (whole c.loop-i.invariant (omega (arith, c.loop-i-test.false))) c.in_default.is c.in-Some-in_only_one.node
     c.in-Some-in_only_one.is)
 
 pub returns-then-rule_at : goal.returns-then-rule_at
 returns-then-rule_at c =
     rw c.at-then-rule_at.ensures
-    (found_rule_root c.args.table.now (whole c.loop-i.invariant (omega (arith, c.loop-i-test.false))) c.in_default.is c.in_default-in_only_one.is
+    (found_rule_root c.args.table.bytes.now (whole c.loop-i.invariant (omega (arith, c.loop-i-test.false))) c.in_default.is c.in_default-in_only_one.is
     (sym c.rule_at.ensures ∙ c.if-rule_at.true))
 
 pub returns-else-rule_at : goal.returns-else-rule_at
 returns-else-rule_at c =
-    found_nothing c.args.table.now (whole c.loop-i.invariant (omega (arith, c.loop-i-test.false))) c.in_default.is c.in_default-in_only_one.is
+    found_nothing c.args.table.bytes.now (whole c.loop-i.invariant (omega (arith, c.loop-i-test.false))) c.in_default.is c.in_default-in_only_one.is
     (sym c.rule_at.ensures ∙ c.if-rule_at.false)
