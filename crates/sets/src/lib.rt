@@ -3,7 +3,7 @@
 
 ghost use Rattle.std.specs.Prelude.{◌≡◌, false, not, ◌&&◌, ◌||◌, ℕ, ◌≤◌, ◌<◌, eqb, ltb};
 ghost use Rattle.answer.specs.Below.{count_below};
-ghost use Rattle.sets.specs.Sets.{most, bit, has, Has, same, Next, NextOrNone};
+ghost use Rattle.sets.specs.Sets.{most, bit, has, Has, Next, NextOrNone};
 
 // How many places a word has.
 pub const WORD: usize = 64;
@@ -143,13 +143,6 @@ impl Set {
             low: self.low & other.low,
             high: self.high & other.high,
         }
-    }
-
-    // Whether the two sets are the same.
-    pub fn same(self, other: Set) -> bool
-        ensures { result ≡ same self other }
-    {
-        self == other
     }
 
     // The least number of the set from i up.
