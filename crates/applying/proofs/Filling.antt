@@ -71,9 +71,9 @@ module _ (t : List ℕ) (before rows : List (List Run)) where
   pub no_field : SetRows rows → FieldsBelow t rows rows 0
   no_field r = record { rowed = r; filled = λ g l. absurd (omega arith); past = λ g l. refl }
 
-  pub one_field : (f : ℕ) (row : List Run) → f < fields → FieldFilled t f row → KeptPastMaximum (maximum t f) (get_or rows f []) row →
+  pub one_field : (f g : ℕ) (row : List Run) → g ≡ f → f < fields → FieldFilled t g row → KeptPastMaximum (maximum t g) (get_or rows f []) row →
       FieldsBelow t before rows f → FieldsBelow t before (set rows f row) (f + 1)
-  one_field f row l h k w =
+  one_field f g row same l hg kg w =
       record {
         rowed = record {
           number = length-set rows f row ∙ w.rowed.number;
@@ -87,6 +87,12 @@ module _ (t : List ℕ) (before rows : List (List Run)) where
         past = λ g lg. past_at g (eqb g f) refl ∙ w.past g lg;
       }
     where
+      h : FieldFilled t f row
+      h = subst (λ g. FieldFilled t g row) same hg
+
+      k : KeptPastMaximum (maximum t f) (get_or rows f []) row
+      k = subst (λ g. KeptPastMaximum (maximum t g) (get_or rows f []) row) same kg
+
       at : (g : ℕ) → g ≡ f → get_or (set rows f row) g [] ≡ row
       at g z = ap (λ k. get_or (set rows f row) k []) z ∙ get_or-set_same rows f row [] (omega (arith, w.rowed.number))
 

@@ -4,7 +4,6 @@
 ghost use Rattle.std.specs.Prelude.{◌≡◌, ℕ, ◌≤◌, ◌<◌, length};
 ghost use Rattle.answer.specs.Fields.{fields};
 ghost use Rattle.sets.specs.Sets.{Has};
-ghost use Rattle.table.specs.WellFormed.{WellFormed};
 ghost use Rattle.encoding.specs.Layout.{maximum, NodeHeld};
 ghost use Rattle.applying.specs.Members.{range_holds, member};
 ghost use Rattle.applying.specs.Filled.{set_at, last_at, run_end, Runs, KeptPastMaximum, FieldFilled, ValuesFilled, SetRows, Filled, KeptPastMaxima};
@@ -12,6 +11,7 @@ ghost use Rattle.applying.specs.Filled.{set_at, last_at, run_end, Runs, KeptPast
 use answer::FIELDS;
 use encoding::layout::{count_at, maximum_at, range_of, ranges_at, span_at};
 use sets::Set;
+use table::Table;
 use targets::in_range;
 
 // How many values a field may have.
@@ -35,21 +35,20 @@ fn holds(table: &[u8], field: usize, value: u8, i: usize) -> bool
 
 // The nodes that apply in a field alone at a value: a node whose range fails is skipped with all nodes under it.
 #[tactic(auto, using(encoding::proofs::Places::header_held, ruling::proofs::Steps::held))]
-pub fn members(table: &[u8], field: usize, value: u8) -> Set
-    requires well_formed { WellFormed table.now }
+pub fn members(table: Table, field: usize, value: u8) -> Set
     requires field_lt_fields { field < fields }
-    ensures { Has result (member table.now field value) }
+    ensures { Has result (member table.entry.bytes.now field value) }
 {
-    let count = count_at(table);
+    let count = count_at(table.bytes);
     let mut set = Set::empty();
     let mut i = 0;
     // A node whose range fails is stepped over by its span, so no range of numbers gives the nodes to be tested.
     while i < count {
-        if holds(table, field, value, i) {
+        if holds(table.bytes, field, value, i) {
             set = set.with(i);
             i += 1;
         } else {
-            i += span_at(table, i);
+            i += span_at(table.bytes, i);
         }
     }
     set
@@ -57,13 +56,12 @@ pub fn members(table: &[u8], field: usize, value: u8) -> Set
 
 // The sets of one field, for each of its values: each value is a run of its own.
 #[tactic(auto, using(encoding::proofs::Places::header_held))]
-fn fill_values(table: &[u8], field: usize, row: &mut [Run; VALUES])
-    requires well_formed { WellFormed table.now }
+fn fill_values(table: Table, field: usize, row: &mut [Run; VALUES])
     requires field_lt_fields { field < fields }
-    ensures values_filled { ValuesFilled table.now field row.new }
-    ensures kept_past_maximum { KeptPastMaximum (maximum table.now field) row.old row.new }
+    ensures values_filled { ValuesFilled table.entry.bytes.now field row.new }
+    ensures kept_past_maximum { KeptPastMaximum (maximum table.entry.bytes.now field) row.old row.new }
 {
-    for value in 0..=maximum_at(table, field) {
+    for value in 0..=maximum_at(table.bytes, field) {
         let last = usize::from(value);
         let set = members(table, field, value);
         row[last] = Run { set, last };
@@ -90,22 +88,20 @@ fn mark_runs(row: &mut [Run; VALUES], most: usize)
 
 // The sets of one field, and its runs.
 #[tactic(auto, using(encoding::proofs::Places::header_held))]
-fn fill_field(table: &[u8], field: usize, row: &mut [Run; VALUES])
-    requires well_formed { WellFormed table.now }
+fn fill_field(table: Table, field: usize, row: &mut [Run; VALUES])
     requires field_lt_fields { field < fields }
-    ensures field_filled { FieldFilled table.now field row.new }
-    ensures kept_past_maximum { KeptPastMaximum (maximum table.now field) row.old row.new }
+    ensures field_filled { FieldFilled table.entry.bytes.now field row.new }
+    ensures kept_past_maximum { KeptPastMaximum (maximum table.entry.bytes.now field) row.old row.new }
 {
     fill_values(table, field, row);
-    mark_runs(row, usize::from(maximum_at(table, field)));
+    mark_runs(row, usize::from(maximum_at(table.bytes, field)));
 }
 
 // The sets of all fields.
-pub fn fill(table: &[u8], rows: &mut [[Run; VALUES]; FIELDS])
-    requires well_formed { WellFormed table.now }
+pub fn fill(table: Table, rows: &mut [[Run; VALUES]; FIELDS])
     requires set_rows { SetRows rows.old }
-    ensures filled { Filled table.now rows.new }
-    ensures kept_past_maxima { KeptPastMaxima table.now rows.old rows.new }
+    ensures filled { Filled table.entry.bytes.now rows.new }
+    ensures kept_past_maxima { KeptPastMaxima table.entry.bytes.now rows.old rows.new }
 {
     for (field, row) in rows.iter_mut().enumerate() {
         fill_field(table, field, row);

@@ -8,11 +8,7 @@ use lib.Dec.{ltb, lit<}
 use lib.ListN.{length}
 use Rattle.answer.specs.Answers.{refused, counted, zeros, padded}
 use Rattle.answer.specs.Refusals.{Refusal, first_number, First, here, None}
-use native.Mathlib.Omega.{arith}
-use Rattle.answer.specs.Numbers.{number_of}
 use Rattle.answer.specs.declared.Answer.{Answer}
-use Rattle.answer.specs.declared.refusal.Refusal.{Refusal as Name}
-use Rattle.answer.proofs.Numbers.{number_positive}
 use Rattle.answer.proofs.Settling.{all_join, all_first, first_in, first_after, refuses, succeeds, Numbered, number_none, number_first}
 use Rattle.table.specs.Reading.{table_refusals, Accepted}
 use Rattle.attaching.specs.Attached.{attached_bytes, fit_refusals, bytes_refusal, attach_refusals, attached, attached_table}
@@ -47,11 +43,9 @@ module _ (b e : List ℕ) (n : ℕ) where
       numbered = (lit< tt, (lit< tt, (lit< tt, tt)))
 
       -- 17, 18 or 19
-      pub fit_refused : (refusal : Name) (a : Answer) (t : List ℕ) → number_of refusal ≡ first_number (fit_refusals b e) → a ≡ refused (number_of refusal) 0 →
-          t ≡ zeros n → Settled a t
-      fit_refused refusal a t ek ea z =
-          let f = number_first (λ number place. number) (λ m. m) (λ number place. refl) 0 refl (fit_refusals b e) (number_of refusal) ek
-              (λ z. omega (arith, z, number_positive refusal)) in
+      pub fit_refused : (k : ℕ) (a : Answer) (t : List ℕ) → k ≡ first_number (fit_refusals b e) → (k ≡ 0 → ⊥) → a ≡ refused k 0 → t ≡ zeros n → Settled a t
+      fit_refused k a t ek h ea z =
+          let f = number_first (λ number place. number) (λ m. m) (λ number place. refl) 0 refl (fit_refusals b e) k ek h in
           let at = all_first (λ r. r.place ≡ 0) (fit_refusals b e) (refl, (refl, (refl, tt))) f.1.0 in
           turned_away a t (after_both (first_in (fit_refusals b e) (bytes_refusal b e n ∷ []) f.1.0)) (ea ∙ ap₂ refused f.1.1 (sym at)) z
 

@@ -2,14 +2,14 @@
 use mathlib.Core.Path.{◌≡◌, sym, ap, ap₂, ◌∙◌}
 use mathlib.Core.Bool.{Bool, true, false, not, ◌||◌}
 use mathlib.Core.List.{List}
-use Prim.Native.Nat.{ℕ, ◌+◌, ◌≤◌, ◌<◌}
+use Prim.Native.Nat.{ℕ, ◌≤◌, ◌<◌}
 use borrow.Author.Tests.{lt-ltb, le-ltb, ltb-false, eq-eqb, ne_eqb, eqb-true, not-false, leb-false}
 use lib.Dec.{eqb, ltb, leb}
 use Rattle.answer.specs.Below.{some_below}
 use Rattle.answer.specs.Fields.{fields}
 use Rattle.answer.specs.Refusals.{None}
 use Rattle.answer.proofs.Tests.{neither}
-use Rattle.answer.proofs.Below.{some_where, some_more, none_each}
+use Rattle.answer.proofs.Below.{none_each}
 use Rattle.encoding.specs.Layout.{version, maximum, count, kind}
 use Rattle.table.specs.Tree.{level, has_level}
 use Rattle.table.specs.WellFormed.{WellFormed}

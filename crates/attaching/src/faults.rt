@@ -25,7 +25,8 @@ fn headers_differ(base: &[u8], expansion: &[u8]) -> bool
     requires { HeaderHeld base.now × HeaderHeld expansion.now }
     ensures { result ≡ headers_differ base.now expansion.now }
 {
-    base[VERSION] != expansion[VERSION] || (0..FIELDS).any(|field| maximum_differs(base, expansion, field))
+    base[VERSION] != expansion[VERSION]
+        || (0..FIELDS).any(|field| maximum_differs(base, expansion, field))
 }
 
 // Refusal 19: too many nodes in all, or a node of the expansion on the last level, since all of them come to stand one level deeper.

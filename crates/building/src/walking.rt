@@ -3,7 +3,6 @@ ghost use Rattle.std.specs.Prelude.{◌≡◌, ◌≤◌, ◌<◌, length, IfSom
 ghost use Rattle.answer.specs.Fields.{fields};
 ghost use Rattle.answer.specs.Answers.{zeros};
 ghost use Rattle.sets.specs.Sets.{has};
-ghost use Rattle.table.specs.WellFormed.{WellFormed};
 ghost use Rattle.ruling.specs.Meaning.{meaning};
 ghost use Rattle.targets.specs.Closed.{Closed};
 ghost use Rattle.applying.specs.Filled.{Filled};
@@ -25,6 +24,7 @@ use entering::edges::Edges;
 use entering::writing::MOST_CARDS;
 use entering::{Index, SLOTS};
 use sets::Set;
+use table::Table;
 
 // What a walk keeps beside the diagram: the index of the entries, what was walked before, and the open edges of each level.
 #[derive(Drop)]
@@ -43,15 +43,15 @@ pub(crate) struct Root {
 
 // Enters the terminal of what the groups give where the nodes of a set apply.
 fn enter_ruling(
-    table: &[u8],
+    table: Table,
     applying: Set,
     diagram: &mut [u16],
     index: &mut Index,
 ) -> Option<usize>
-    requires well_formed { WellFormed table.now × Closed table.now (has applying) }
+    requires closed { Closed table.bytes.now (has applying) }
     requires room { Room (length diagram.old) index.old.end }
     ensures bounded { Bounded diagram.old index.old.slots index.old.end diagram.new index.new.slots index.new.end result }
-    ensures standing { (es : Entries) → Laid es diagram.old index.old.slots index.old.end → Standing (enter (header fields) es (terminal (meaning (has applying) table.now))) (length diagram.old) diagram.new index.new.slots index.new.end result }
+    ensures standing { (es : Entries) → Laid es diagram.old index.old.slots index.old.end → Standing (enter (header fields) es (terminal (meaning (has applying) table.entry.bytes.now))) (length diagram.old) diagram.new index.new.slots index.new.end result }
 {
     let mut cards = [0u16; MOST_CARDS];
     let ruled = rule_set(table, applying, &mut cards);
@@ -62,7 +62,7 @@ fn enter_ruling(
 // Walks the fields from one on, unless that was done with the same set: by the neighbour before, or remembered from earlier.
 #[cycle(walk_walk_once)]
 fn walk_once(
-    table: &[u8],
+    table: Table,
     sets: &[[Run; VALUES]; FIELDS],
     field: usize,
     possible: Set,
@@ -70,9 +70,9 @@ fn walk_once(
     diagram: &mut [u16],
     memory: &mut Memory,
 ) -> Option<usize>
-    requires well_formed { WellFormed table.now × Filled table.now sets.now × Closed table.now (has possible) }
+    requires filled { Filled table.bytes.now sets.now × Closed table.bytes.now (has possible) }
     requires room { Room (length diagram.old) memory.old.index.end × (field ≤ fields) × IfSome near (λ known. known.place < most_places) }
-    ensures walks { Walks (walk_by table.now field (has possible)) (Held (RemembersNear table.now memory.old.seen field near) diagram.old memory.old.index.slots memory.old.index.end) (Remembers table.now memory.new.seen) (length diagram.old) diagram.new memory.new.index.slots memory.new.index.end result }
+    ensures walks { Walks (walk_by table.entry.bytes.now field (has possible)) (Held (RemembersNear table.entry.bytes.now memory.old.seen field near) diagram.old memory.old.index.slots memory.old.index.end) (Remembers table.entry.bytes.now memory.new.seen) (length diagram.old) diagram.new memory.new.index.slots memory.new.index.end result }
     ensures edges_kept { EdgesKept field memory.old.edges memory.new.edges }
 {
     if let Some(place) = recall_near(near, possible) {
@@ -91,22 +91,22 @@ fn walk_once(
 // is entered, then the node itself.
 #[cycle(walk_walk_once)]
 fn walk(
-    table: &[u8],
+    table: Table,
     sets: &[[Run; VALUES]; FIELDS],
     field: usize,
     possible: Set,
     diagram: &mut [u16],
     memory: &mut Memory,
 ) -> Option<usize>
-    requires well_formed { WellFormed table.now × Filled table.now sets.now × Closed table.now (has possible) }
+    requires filled { Filled table.bytes.now sets.now × Closed table.bytes.now (has possible) }
     requires room { Room (length diagram.old) memory.old.index.end × (field ≤ fields) }
-    ensures walks { Walks (walk_by table.now field (has possible)) (Held (Remembers table.now memory.old.seen) diagram.old memory.old.index.slots memory.old.index.end) (Remembers table.now memory.new.seen) (length diagram.old) diagram.new memory.new.index.slots memory.new.index.end result }
+    ensures walks { Walks (walk_by table.entry.bytes.now field (has possible)) (Held (Remembers table.entry.bytes.now memory.old.seen) diagram.old memory.old.index.slots memory.old.index.end) (Remembers table.entry.bytes.now memory.new.seen) (length diagram.old) diagram.new memory.new.index.slots memory.new.index.end result }
     ensures edges_kept { EdgesKept field memory.old.edges memory.new.edges }
 {
     if field == FIELDS {
         return enter_ruling(table, possible, diagram, &mut memory.index);
     }
-    let most = maximum_at(table, field) as usize;
+    let most = usize::from(maximum_at(table.bytes, field));
     let mut near = None;
     memory.edges[field].clear();
     let mut value: usize = 0;
@@ -125,11 +125,10 @@ fn walk(
 }
 
 // Walks all fields, in a cleared diagram.
-pub(crate) fn walk_all(table: &[u8], diagram: &mut [u16]) -> Option<Root>
-    requires well_formed { WellFormed table.now }
+pub(crate) fn walk_all(table: Table, diagram: &mut [u16]) -> Option<Root>
     requires room { Room (length diagram.old) (header fields) }
     requires diagram_value { diagram.old ≡ zeros (length diagram.old) }
-    ensures { AllWalked table.now (length diagram.old) diagram.new result }
+    ensures { AllWalked table.entry.bytes.now (length diagram.old) diagram.new result }
 {
     let run = Run {
         set: Set::empty(),

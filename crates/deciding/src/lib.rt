@@ -6,7 +6,6 @@ ghost use Rattle.std.proofs.lemmas.List.Edits.{sets};
 ghost use Rattle.combining.specs.Table.{Combines};
 ghost use Rattle.sets.specs.Sets.{most, has, NextOrNone};
 ghost use Rattle.encoding.specs.Layout.{count};
-ghost use Rattle.table.specs.WellFormed.{WellFormed};
 ghost use Rattle.ruling.specs.Meaning.{decision, cards, meaning};
 ghost use Rattle.targets.specs.Closed.{Closed};
 
@@ -14,6 +13,7 @@ use combining::{Decision, Kind, Running, Ways};
 use encoding::layout::{card_at, count_at, kind_at, span_at};
 use ruling::groups::{Ruled, effect_of, put};
 use sets::Set;
+use table::Table;
 
 // The next node of the set from i up, below end.
 fn next_below(applying: Set, i: usize, end: usize) -> Option<usize>
@@ -25,23 +25,23 @@ fn next_below(applying: Set, i: usize, end: usize) -> Option<usize>
 
 // The decision of node i, which is in the set.
 #[tactic(auto, using(ruling::proofs::Steps::held))]
-fn decide(table: &[u8], ways: &Ways, applying: Set, i: usize) -> u8
-    requires well_formed { WellFormed table.now × Combines ways.now }
-    requires closed { Closed table.now (has applying) }
-    requires i_bound { (i < count table.now) × (has applying i ≡ true) }
-    ensures { result ≡ decision (has applying) table.now i }
+fn decide(table: Table, ways: &Ways, applying: Set, i: usize) -> u8
+    requires combines { Combines ways.now }
+    requires closed { Closed table.bytes.now (has applying) }
+    requires i_bound { (i < count table.bytes.now) × (has applying i ≡ true) }
+    ensures { result ≡ decision (has applying) table.entry.bytes.now i }
 {
-    let kind = kind_at(table, i);
+    let kind = kind_at(table.bytes, i);
     match kind {
         Kind::FIRST_APPLICABLE..=Kind::DENY_OVERRIDES => {
-            let end = i + span_at(table, i);
+            let end = i + span_at(table.bytes, i);
             let mut running = Running::start(kind);
             let mut from = i + 1;
             // The nodes under a child are stepped over, by its span: the members of the set one after another would be all of them.
             while let Some(child) = next_below(applying, from, end) {
                 let decision = decide(table, ways, applying, child);
                 running = running.take(ways, decision, true);
-                from = child + span_at(table, child);
+                from = child + span_at(table.bytes, child);
             }
             running.decision
         }
@@ -50,10 +50,9 @@ fn decide(table: &[u8], ways: &Ways, applying: Set, i: usize) -> u8
 }
 
 // The decision of the root.
-fn decide_root(table: &[u8], applying: Set) -> u8
-    requires well_formed { WellFormed table.now }
-    requires closed { Closed table.now (has applying) }
-    ensures { result ≡ decision (has applying) table.now 0 }
+fn decide_root(table: Table, applying: Set) -> u8
+    requires closed { Closed table.bytes.now (has applying) }
+    ensures { result ≡ decision (has applying) table.entry.bytes.now 0 }
 {
     if applying.has(0) {
         let ways = Running::ways();
@@ -65,19 +64,18 @@ fn decide_root(table: &[u8], applying: Set) -> u8
 
 // How many rules of the set there are. Their cards are stored in table order, as far as the list reaches.
 #[tactic(auto, using(encoding::proofs::Places::header_held, ruling::proofs::Steps::held))]
-fn gather(table: &[u8], applying: Set, list: &mut [u16]) -> usize
-    requires { WellFormed table.now }
-    ensures value { result ≡ length (cards (has applying) table.now) }
-    ensures list_after { list.new ≡ sets list.old 0 (cards (has applying) table.now) }
+fn gather(table: Table, applying: Set, list: &mut [u16]) -> usize
+    ensures value { result ≡ length (cards (has applying) table.entry.bytes.now) }
+    ensures list_after { list.new ≡ sets list.old 0 (cards (has applying) table.entry.bytes.now) }
 {
-    let count = count_at(table);
+    let count = count_at(table.bytes);
     let mut stored = 0;
     let mut from = 0;
     while let Some(i) = next_below(applying, from, count) {
-        match kind_at(table, i) {
+        match kind_at(table.bytes, i) {
             Kind::FIRST_APPLICABLE..=Kind::DENY_OVERRIDES => {}
             _ => {
-                put(list, stored, card_at(table, i));
+                put(list, stored, card_at(table.bytes, i));
                 stored += 1;
             }
         }
@@ -87,11 +85,10 @@ fn gather(table: &[u8], applying: Set, list: &mut [u16]) -> usize
 }
 
 // Rules where the nodes of a set apply: the cards are stored as far as the list reaches, and counted.
-pub fn rule_set(table: &[u8], applying: Set, list: &mut [u16]) -> Ruled
-    requires well_formed { WellFormed table.now }
-    requires closed { Closed table.now (has applying) }
-    ensures decision_value { (result.decision ≡ (meaning (has applying) table.now).decision) × (result.count ≡ length (meaning (has applying) table.now).cards) }
-    ensures list_after { list.new ≡ sets list.old 0 (meaning (has applying) table.now).cards }
+pub fn rule_set(table: Table, applying: Set, list: &mut [u16]) -> Ruled
+    requires closed { Closed table.bytes.now (has applying) }
+    ensures decision_value { (result.decision ≡ (meaning (has applying) table.entry.bytes.now).decision) × (result.count ≡ length (meaning (has applying) table.entry.bytes.now).cards) }
+    ensures list_after { list.new ≡ sets list.old 0 (meaning (has applying) table.entry.bytes.now).cards }
 {
     let count = gather(table, applying, list);
     let decision = decide_root(table, applying);

@@ -248,9 +248,6 @@ module _ (d : List ℕ) (end : ℕ) (index e : List ℕ) where
   abbrev pub Finds : Found → Type 0
   Finds found = (es : Entries) → Laid es d index end → Finding es index end e found
 
-  pub tried_none : Tried 0
-  tried_none es l i h = absurd (omega arith)
-
   -- all slots were tried, and all entries compared: none is equal
   pub none_finds : Tried tries → IsFoundAt d end e end → Finds (Absent None)
   none_finds tried f es l =

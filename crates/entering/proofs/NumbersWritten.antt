@@ -1,11 +1,11 @@
 -- An entry's numbers, written one after another to the start of a room, and what the rest of a lent diagram comes back as.
 use mathlib.Core.Path.{◌≡◌, refl, sym, ap, ◌∙◌}
-use mathlib.Core.List.{List, [], ◌∷◌, ◌++◌, append_assoc, append-nil}
+use mathlib.Core.List.{List, [], ◌∷◌, ◌++◌, append-nil}
 use Prim.Native.Nat.{ℕ, suc, ◌+◌, ◌*◌, ◌-◌, ◌≤◌}
 use native.Mathlib.Omega.{arith}
 use native.Mathlib.Numerals.{add-one}
-use lib.ListN.{length, get_or, take, drop, set, length-set, length-append, length-drop, drop_of_length-le}
-use lib.Seq.{sets, sets-eq, take_all, take_at, drop-drop, length-take-le}
+use lib.ListN.{length, get_or, take, drop, set, length-append, length-drop, drop_of_length-le}
+use lib.Seq.{sets, sets-eq, take_all, take_at, length-take-le}
 use borrow.Rule.Slice.PartMut.{mid_of, post_of, put_mid}
 use Rattle.answer.proofs.Stored.{stored_join}
 use Rattle.diagram.specs.Entries.{terminal, Edge, edge_numbers, node}
@@ -36,19 +36,6 @@ rest_kept d r p h e =
 pub start_is : (d ns now : List ℕ) (k : ℕ) → now ≡ sets d 0 ns → k ≡ length ns → length ns ≤ length d → take k now ≡ ns
 start_is d ns now k w e h =
     ap (take k) (w ∙ sets-eq ns d 0 (omega arith)) ∙ take_at ns (drop (0 + length ns) d) k (sym e)
-
--- numbers stored at the start of the rest from p on are stored from p on
-pub rest_stored : (d ns r : List ℕ) (p : ℕ) → p + length ns ≤ length d → r ≡ sets (mid_of p (length d - p) d) 0 ns → put_mid p (length d - p) d r ≡ sets d p ns
-rest_stored d ns r p h e =
-    let z : 0 + length ns ≡ length ns = omega arith in
-    rest_back d r p (omega arith)
-    ∙ ap (λ l. take p d ++ l)
-    (e ∙ ap (λ l. sets l 0 ns) (rest_lent d p (omega arith))
-    ∙ sets-eq ns (drop p d) 0 (simp length-drop (omega arith))
-    ∙ ap (λ k. ns ++ drop k (drop p d)) z
-    ∙ ap (λ l. ns ++ l) (drop-drop (length ns) p d))
-    ∙ sym (append_assoc (take p d) ns (drop (p + length ns) d))
-    ∙ sym (sets-eq ns d p h)
 
 numbers_join : (es fs : List Edge) → edge_numbers (es ++ fs) ≡ edge_numbers es ++ edge_numbers fs
 numbers_join [] fs = refl
@@ -90,14 +77,6 @@ node_length last child level n part w = ap length w ∙ omega (arith, edge_numbe
 pub terminal_length : (decision : ℕ) (cards part : List ℕ) → part ≡ terminal (record { decision = decision; cards = cards }) → length part ≡ 3 + length cards
 unfolding terminal
 terminal_length decision cards part w = ap length w ∙ omega arith
-
--- storing three numbers keeps the length
-pub three_kept : (room : List ℕ) (i j k a b c : ℕ) → length (set (set (set room i a) j b) k c) ≡ length room
-three_kept room i j k a b c =
-    length-set (set (set room i a) j b) k c ∙ length-set (set room i a) j b ∙ length-set room i a
-
-pub two_kept : (room : List ℕ) (i j a b : ℕ) → length (set (set room i a) j b) ≡ length room
-two_kept room i j a b = length-set (set room i a) j b ∙ length-set room i a
 
 -- the numbers of a terminal: three, and the cards
 pub terminal_written : (room cards : List ℕ) (decision : ℕ) →

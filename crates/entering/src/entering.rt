@@ -1,4 +1,5 @@
 // Entering a terminal or a node: "only if no equal entry stands; an equal one is pointed to".
+// Two functions that differ in the writer alone: lent on as a closure, its contract would be longer than what they share.
 ghost use Rattle.std.specs.Prelude.{◌≡◌, ◌≤◌, length};
 ghost use Rattle.answer.specs.Fields.{fields};
 ghost use Rattle.diagram.specs.Layout.{header};

@@ -24,7 +24,7 @@ pub(crate) fn write_terminal(room: &mut [u16], decision: u8, cards: &[u16]) -> u
 {
     let count = cards.len();
     room[0] = 0;
-    room[1] = decision as u16;
+    room[1] = u16::from(decision);
     room[2] = count as u16;
     store(cards, room, 3);
     3 + count

@@ -1,5 +1,5 @@
 -- The edges of a sound node rise, so that the edge of a value is where those below the value end.
-use Rattle.std.proofs.Common.{◌≡◌, sym, ap, subst, ⊎_elim, true, false, List, [], ℕ, zero, suc, ◌-◌, ◌≤◌, ◌<◌, arith, add-one, ltb, get_or, length, ltb-true, ltb-false}
+use Rattle.std.proofs.Common.{◌≡◌, sym, ap, ◌∙◌, subst, ⊎_elim, true, false, List, [], ℕ, zero, suc, ◌-◌, ◌≤◌, ◌<◌, arith, add-one, ltb, get_or, length, ltb-true, ltb-false}
 use Rattle.std.specs.List.Sorted.{IsPartitionPoint, IsPartitionedBy}
 use Rattle.std.proofs.lemmas.List.Sorted.{IsNonDecreasingBy-from_default, IsPartitionedBy-ltb}
 use native.Mathlib.Nat.{eq-or-lt_of_le}
@@ -8,6 +8,10 @@ use Rattle.diagram.specs.LookUp.{edge}
 use Rattle.diagram.specs.Sound.{SoundNode}
 use Rattle.diagram.specs.Decided.{lt?}
 use Rattle.diagram.proofs.FirstEdge.{edge_is}
+
+-- a number that was read is that of its place
+pub read_at : (d : List ℕ) (i n : ℕ) → n ≡ get_or d i 0 → (j : ℕ) → i ≡ j → n ≡ get_or d j 0
+read_at d i n e j h = e ∙ ap (λ k. get_or d k 0) h
 
 -- the last value of an edge, a pair with its child's place
 abbrev pub last_of : List ℕ → ℕ

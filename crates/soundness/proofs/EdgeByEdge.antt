@@ -1,6 +1,5 @@
 -- Laws of a node whose edges are checked one after another, one for each way through the code.
-use Rattle.std.proofs.Common.{◌≡◌, refl, sym, ap, ◌∙◌, subst, Bool, true, false, cond, ◌⊎◌, ⊎_elim, inl, inr, List, ℕ, ◌+◌, ◌-◌, ◌≤◌, ◌<◌, arith, eqb-true, eq-eqb, ne_eqb, eqb, get_or, take, below_more}
-use Rattle.std.proofs.lemmas.Bool.{eqb-false}
+use Rattle.std.proofs.Common.{◌≡◌, refl, sym, ap, ◌∙◌, subst, Bool, true, false, cond, ◌⊎◌, ⊎_elim, inl, inr, List, ℕ, ◌+◌, ◌-◌, ◌≤◌, ◌<◌, arith, eq-eqb, ne_eqb, get_or, take, below_more}
 use Rattle.std.proofs.lemmas.List.{get_or-take, get_or_past, length-take}
 use native.Mathlib.Nat.{eq-or-lt_of_le}
 use Rattle.answer.specs.Fields.{fields}
@@ -104,9 +103,10 @@ module _ (d : List ℕ) (p : ℕ) where
         let i : j - 1 + 1 ≡ j = omega arith in
         c.after (j - 1) i ∙ ap (λ n. last_at d p (n - 1) + 1) ej
 
-    pub edges_decide : (most : ℕ) → most ≡ number_at d (1 + level_at d p) → (b : Bool) → eqb from (most + 1) ≡ b → Decides (SoundNode fields d p) b
-    edges_decide most e true t =
-        let z : from ≡ most + 1 = eqb-true from _ t in
+    pub edges_decide : (most : ℕ) → most ≡ number_at d (1 + level_at d p) → (b : Bool) → (b ≡ true → from ≡ most + 1) → (b ≡ false → from ≡ most + 1 → ⊥) →
+        Decides (SoundNode fields d p) b
+    edges_decide most e true t f =
+        let z : from ≡ most + 1 = t refl in
         let some : 1 ≤ j =
         ⊎_elim (λ (y : 0 ≡ j). absurd (omega (arith, c.first (sym y)))) (λ (g : 0 < j). g) (eq-or-lt_of_le {n = 0} {m = j} (omega arith)) in
         record {
@@ -117,4 +117,4 @@ module _ (d : List ℕ) (p : ℕ) where
           ending = omega (arith, ends some, its_maximum);
           children = λ i g. c.children i (omega arith);
         }
-    edges_decide most e false t = λ s. eqb-false from _ t (omega (arith, ends (omega (arith, s.some_edge)), s.ending, its_maximum))
+    edges_decide most e false t f = λ s. f refl (omega (arith, ends (omega (arith, s.some_edge)), s.ending, its_maximum))

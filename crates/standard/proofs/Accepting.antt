@@ -7,11 +7,13 @@ use native.Mathlib.Omega.{arith}
 use lib.Dec.{lit<}
 use Rattle.answer.specs.Answers.{refused, counted}
 use Rattle.answer.specs.Refusals.{Refusal, row, upward, None, First}
-use Rattle.answer.specs.declared.Answer.{Answer}
-use Rattle.answer.proofs.Settling.{all_join, all_parts, all_upward, upward_all, first_in, first_after, settled_first, settled_none, settled_after, Numbered, number_none, number_first}
+use Rattle.answer.specs.Numbers.{number_of}
+use Rattle.answer.specs.declared.refusal.Refused.{Refused}
+use Rattle.answer.proofs.Numbers.{number_positive}
+use Rattle.answer.proofs.Settling.{all_join, all_parts, all_upward, upward_all, first_in, settled_first, settled_none, settled_after, Numbered, number_none, number_first}
 use Rattle.encoding.specs.Layout.{count}
 use Rattle.table.specs.Reading.{table_refusals, reading, Accepted}
-use Rattle.table.proofs.Accepting.{read_refused}
+use Rattle.table.proofs.Accepting.{read_refused, table_numbered}
 use Rattle.standard.specs.Profile.{at_node, mixed_group, rule_in_only_one, rule_as_root, profile_refusals, standard_refusals, Standard, profiled, reading_standard}
 
 module _ (t : List ℕ) where
@@ -52,9 +54,9 @@ module _ (t : List ℕ) where
   no_rule_as_root s = (profile_parts s).2.0
 
   -- a table that is refused without the profile is so by it
-  pub standard_refused : (a : Answer) → a ≡ reading t → (a.number ≡ 0 → ⊥) → a ≡ reading_standard t
-  standard_refused a e h =
-      let f = read_refused t a e h in
+  pub standard_refused : (r : Refused) → refused (number_of r.refusal) r.place ≡ reading t → refused (number_of r.refusal) r.place ≡ reading_standard t
+  standard_refused r e =
+      let f = read_refused t (refused (number_of r.refusal) r.place) e (λ z. omega (arith, z, number_positive r.refusal)) in
       f.1.1 ∙ sym (settled_first refused (counted (count t)) (standard_refusals t) (first_in (table_refusals t) (profile_refusals t) f.1.0))
 
   -- of one that is accepted the profile is asked
@@ -74,15 +76,18 @@ module _ (t : List ℕ) where
   pub standard_counted : Standard t → counted (count t) ≡ reading_standard t
   standard_counted s = sym (settled_none refused (counted (count t)) (standard_refusals t) s)
 
-  -- what the profile answers of an accepted table tells
-  module _ (c : Accepted t) (a : Answer) (e : a ≡ profiled t) where
-    pub profile_passes : a.number ≡ 0 → Standard t
-    profile_passes z =
-        all_join (λ r. r.when ≡ false) (table_refusals t) (profile_refusals t) c
-        (number_none refused (λ x. x.number) (λ number place. refl) (counted (count t)) refl (profile_refusals t) profile_numbered
-        (sym (ap (λ x. x.number) e) ∙ z))
+  standard_numbered : Numbered (standard_refusals t)
+  standard_numbered = all_join (λ r. 0 < r.number) (table_refusals t) (profile_refusals t) (table_numbered t) profile_numbered
 
-    pub profile_refuses : (a.number ≡ 0 → ⊥) → (r : Refusal) × (First (standard_refusals t) r × (a ≡ refused r.number r.place))
-    profile_refuses h =
-        let f = number_first refused (λ x. x.number) (λ number place. refl) (counted (count t)) refl (profile_refusals t) a e h in
-        (f.0, (first_after (table_refusals t) (profile_refusals t) c f.1.0, f.1.1))
+  -- and where the count is read, it refused nothing
+  pub counted_standard : counted (count t) ≡ reading_standard t → Standard t
+  counted_standard e =
+      number_none refused (λ a. a.number) (λ number place. refl) (counted (count t)) refl (standard_refusals t) standard_numbered
+      (sym (ap (λ a. a.number) e))
+
+  -- what is read of a table that is refused is its first refusal
+  pub refused_standard : (r : Refused) → refused (number_of r.refusal) r.place ≡ reading_standard t →
+      (first : Refusal) × (First (standard_refusals t) first × (refused (number_of r.refusal) r.place ≡ refused first.number first.place))
+  refused_standard r e =
+      number_first refused (λ a. a.number) (λ number place. refl) (counted (count t)) refl (standard_refusals t) (refused (number_of r.refusal) r.place) e
+      (λ z. omega (arith, z, number_positive r.refusal))

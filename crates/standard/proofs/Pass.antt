@@ -11,7 +11,8 @@ use lib.Dec.{eqb}
 use lib.ListN.{get_or, set, get_or-replicate, length-replicate}
 use lib.Seq.{get_or-set_same}
 use Rattle.answer.specs.Answers.{refused, counted, zeros}
-use Rattle.answer.specs.Refusals.{row, upward, None, First, here}
+use Rattle.answer.specs.Refusals.{row, upward, None as Absent, First, here}
+use Rattle.std.specs.Prelude.{Option, Some, None}
 use Rattle.answer.proofs.Settling.{all_join, all_upward, first_in, first_after, first_upward, settled_first, settled_none}
 use Rattle.answer.proofs.Tests.{neither, and_false}
 use Rattle.combining.specs.Kinds.{only_one_applicable_kind}
@@ -22,7 +23,7 @@ use Rattle.table.specs.WellFormed.{WellFormed}
 use Rattle.ruling.specs.Forest.{children_of}
 use Rattle.ruling.proofs.ChildrenByParents.{EachOf, row_first, children_first, children_end}
 use Rattle.standard.specs.Profile.{at_node, holds_rule, holds_group, mixed_group, rule_in_only_one, rule_as_root, profile_refusals, profiled}
-use Rattle.standard.specs.Pass.{tally, Tallied, Lowest, FoundFrom}
+use Rattle.standard.specs.Pass.{tally, Tallied, LowestNode, FoundFrom}
 use Rattle.standard.specs.declared.profile.Found.{Found}
 use Rattle.standard.proofs.Accepting.{mixed, in_only_one, root}
 use Rattle.standard.proofs.Rows.{holds_by_rows, tallied_with}
@@ -52,15 +53,17 @@ module _ (t : List ℕ) (j : ℕ) where
   in_only_one_by e f = sym (ap₂ (λ x y. x && y) e f)
 
 -- the lowest node at fault, with one node more
-module _ (n : ℕ) (fault : ℕ → Bool) (i m : ℕ) (l : i < n) (h : Lowest n fault (i + 1) m) where
-  pub lowest_with : (b : Bool) → fault i ≡ b → Lowest n fault i (cond b i m)
-  lowest_with true e = record { lower = λ j a k. absurd (omega arith); found = inr (l, e) }
-  lowest_with false e =
-      record {
-        lower =
-            λ j a k. ⊎_elim (λ (d : i ≡ j). subst (λ x. fault x ≡ false) d e) (λ (d : i < j). h.lower j (omega arith) k) (eq-or-lt_of_le a);
-        found = h.found;
-      }
+module _ (n : ℕ) (fault : ℕ → Bool) (i : ℕ) (m : Option ℕ) (l : i < n) (h : LowestNode n fault (i + 1) m) where
+  pub lowest_with : (b : Bool) → fault i ≡ b → LowestNode n fault i (cond b (Some i) m)
+  lowest_with true e = (record { lower = λ j a k. absurd (omega arith); found = inr (l, e) }, l)
+  lowest_with false e = (
+    record {
+      lower =
+          λ j a k. ⊎_elim (λ (d : i ≡ j). subst (λ x. fault x ≡ false) d e) (λ (d : i < j). h.0.lower j (omega arith) k) (eq-or-lt_of_le a);
+      found = h.0.found;
+    },
+    h.1,
+  )
 
 module _ (t : List ℕ) (w : WellFormed t) where
   -- a rule holds nothing
@@ -76,23 +79,23 @@ module _ (t : List ℕ) (w : WellFormed t) where
   -- with node i, where what is found of it is what its kind and its end give
   module _ (i : ℕ) (l : i < count t) {rules groups : List ℕ} {after : Found} (h : FoundFrom t (i + 1) rules groups after) where
     with_one : (f : Found) →
-        f.rules ≡ tally (is_rule t i) (get_or rules (end_of t i) 0) → f.groups ≡ tally (not (is_rule t i)) (get_or groups (end_of t i) 0) →
-        f.mixed ≡ cond (mixed_group t i) i after.mixed → f.in_only_one ≡ cond (rule_in_only_one t i) i after.in_only_one →
-        FoundFrom t i (set rules i f.rules) (set groups i f.groups) f
+        f.row.rules ≡ tally (is_rule t i) (get_or rules (end_of t i) 0) → f.row.groups ≡ tally (not (is_rule t i)) (get_or groups (end_of t i) 0) →
+        f.mixed ≡ cond (mixed_group t i) (Some i) after.mixed → f.in_only_one ≡ cond (rule_in_only_one t i) (Some i) after.in_only_one →
+        FoundFrom t i (set rules i f.row.rules) (set groups i f.row.groups) f
     with_one f er eg em eo =
         record {
-          rule_rows = tallied_with t w i l (is_rule t) rules h.rule_rows f.rules er;
-          group_rows = tallied_with t w i l (λ j. not (is_rule t j)) groups h.group_rows f.groups eg;
-          rules_here = sym (get_or-set_same rules i f.rules 0 (omega (arith, h.rule_rows.room)));
-          groups_here = sym (get_or-set_same groups i f.groups 0 (omega (arith, h.group_rows.room)));
+          rule_rows = tallied_with t w i l (is_rule t) rules h.rule_rows f.row.rules er;
+          group_rows = tallied_with t w i l (λ j. not (is_rule t j)) groups h.group_rows f.row.groups eg;
+          rules_here = sym (get_or-set_same rules i f.row.rules 0 (omega (arith, h.rule_rows.room)));
+          groups_here = sym (get_or-set_same groups i f.row.groups 0 (omega (arith, h.group_rows.room)));
           mixed = rw em (lowest_with (count t) (mixed_group t) i after.mixed l h.mixed (mixed_group t i) refl);
           in_only_one = rw eo (lowest_with (count t) (rule_in_only_one t) i after.in_only_one l h.in_only_one (rule_in_only_one t i) refl);
         }
 
     -- a rule
     pub with_rule : 4 ≤ kind t i → (f : Found) →
-        f.rules ≡ after.rules + 1 → f.groups ≡ after.groups → f.mixed ≡ after.mixed → f.in_only_one ≡ after.in_only_one →
-        FoundFrom t i (set rules i f.rules) (set groups i f.groups) f
+        f.row.rules ≡ after.row.rules + 1 → f.row.groups ≡ after.row.groups → f.mixed ≡ after.mixed → f.in_only_one ≡ after.in_only_one →
+        FoundFrom t i (set rules i f.row.rules) (set groups i f.row.groups) f
     with_rule k f er eg em eo =
         let e : is_rule t i ≡ true = le-leb 4 (kind t i) k in
         let next : i + 1 ≡ end_of t i = omega (arith, w.rules i l k) in
@@ -100,15 +103,15 @@ module _ (t : List ℕ) (w : WellFormed t) where
         with_one f
         (er ∙ ap (λ x. x + 1) (h.rules_here ∙ ap (λ j. get_or rules j 0) next) ∙ sym (ap (λ b. tally b (get_or rules (end_of t i) 0)) e))
         (eg ∙ h.groups_here ∙ ap (λ j. get_or groups j 0) next ∙ sym (ap (λ b. tally (not b) (get_or groups (end_of t i) 0)) e))
-        (em ∙ sym (ap (λ b. cond b i after.mixed) (mixed_by t i none refl)))
-        (eo ∙ sym (ap (λ b. cond b i after.in_only_one) (in_only_one_by t i refl none ∙ and_false (only_one t i))))
+        (em ∙ sym (ap (λ b. cond b (Some i) after.mixed) (mixed_by t i none refl)))
+        (eo ∙ sym (ap (λ b. cond b (Some i) after.in_only_one) (in_only_one_by t i refl none ∙ and_false (only_one t i))))
 
     -- what a group holds
-    rules_held : not (eqb after.rules (get_or rules (end_of t i) 0)) ≡ holds_rule t i
+    rules_held : not (eqb after.row.rules (get_or rules (end_of t i) 0)) ≡ holds_rule t i
     unfolding holds_rule
     rules_held = ap (λ x. not (eqb x (get_or rules (end_of t i) 0))) h.rules_here ∙ sym (holds_by_rows t w i l (is_rule t) rules h.rule_rows)
 
-    groups_held : not (eqb after.groups (get_or groups (end_of t i) 0)) ≡ holds_group t i
+    groups_held : not (eqb after.row.groups (get_or groups (end_of t i) 0)) ≡ holds_group t i
     unfolding holds_group
     groups_held =
         ap (λ x. not (eqb x (get_or groups (end_of t i) 0))) h.groups_here
@@ -116,21 +119,21 @@ module _ (t : List ℕ) (w : WellFormed t) where
 
     -- a group, where so many rules and groups stand on the row of the node where it ends
     pub with_group : kind t i < 4 → {one : Bool} → one ≡ only_one t i → (r g : ℕ) → r ≡ get_or rules (end_of t i) 0 → g ≡ get_or groups (end_of t i) 0 → (f : Found) →
-        f.rules ≡ r → f.groups ≡ g + 1 → f.mixed ≡ cond (not (eqb after.rules r) && not (eqb after.groups g)) i after.mixed →
-        f.in_only_one ≡ cond (one && not (eqb after.rules r)) i after.in_only_one →
-        FoundFrom t i (set rules i f.rules) (set groups i f.groups) f
+        f.row.rules ≡ r → f.row.groups ≡ g + 1 → f.mixed ≡ cond (not (eqb after.row.rules r) && not (eqb after.row.groups g)) (Some i) after.mixed →
+        f.in_only_one ≡ cond (one && not (eqb after.row.rules r)) (Some i) after.in_only_one →
+        FoundFrom t i (set rules i f.row.rules) (set groups i f.row.groups) f
     with_group k {one} eo r g hr hg f er eg em ei =
         let e : is_rule t i ≡ false = lt-leb 4 (kind t i) k in
-        let rs = ap (λ x. not (eqb after.rules x)) hr ∙ rules_held in
-        let gs = ap (λ x. not (eqb after.groups x)) hg ∙ groups_held in
+        let rs = ap (λ x. not (eqb after.row.rules x)) hr ∙ rules_held in
+        let gs = ap (λ x. not (eqb after.row.groups x)) hg ∙ groups_held in
         with_one f
         (er ∙ hr ∙ sym (ap (λ b. tally b (get_or rules (end_of t i) 0)) e))
         (eg ∙ ap (λ x. x + 1) hg ∙ sym (ap (λ b. tally (not b) (get_or groups (end_of t i) 0)) e))
-        (em ∙ sym (ap (λ b. cond b i after.mixed) (mixed_by t i rs gs)))
-        (ei ∙ sym (ap (λ b. cond b i after.in_only_one) (in_only_one_by t i eo rs)))
+        (em ∙ sym (ap (λ b. cond b (Some i) after.mixed) (mixed_by t i rs gs)))
+        (ei ∙ sym (ap (λ b. cond b (Some i) after.in_only_one) (in_only_one_by t i eo rs)))
 
 -- before the last node, where all numbers are 0
-pub found_none : (t : List ℕ) (n : ℕ) → count t < n → (i : ℕ) → i ≡ count t → (f : Found) → f.rules ≡ 0 → f.groups ≡ 0 → f.mixed ≡ i → f.in_only_one ≡ i →
+pub found_none : (t : List ℕ) (n : ℕ) → count t < n → (i : ℕ) → i ≡ count t → (f : Found) → f.row.rules ≡ 0 → f.row.groups ≡ 0 → f.mixed ≡ None → f.in_only_one ≡ None →
     FoundFrom t i (zeros n) (zeros n) f
 found_none t n l i e f er eg em eo =
     subst (λ k. FoundFrom t k (zeros n) (zeros n) f) (sym e) (record {
@@ -138,8 +141,8 @@ found_none t n l i e f er eg em eo =
       group_rows = rows (λ j. not (is_rule t j));
       rules_here = er ∙ sym none;
       groups_here = eg ∙ sym none;
-      mixed = lowest (mixed_group t) f.mixed (em ∙ e);
-      in_only_one = lowest (rule_in_only_one t) f.in_only_one (eo ∙ e);
+      mixed = rw em (lowest (mixed_group t));
+      in_only_one = rw eo (lowest (rule_in_only_one t));
     })
   where
     none : get_or (zeros n) (count t) 0 ≡ 0
@@ -153,53 +156,54 @@ found_none t n l i e f er eg em eo =
           few = λ j a b. let e : j ≡ count t = omega arith in omega (arith, ap (λ k. get_or (zeros n) k 0) e, none);
         }
 
-    lowest : (fault : ℕ → Bool) (m : ℕ) → m ≡ count t → Lowest (count t) fault (count t) m
-    lowest fault m e = record { lower = λ j a b. absurd (omega arith); found = inl e }
+    lowest : (fault : ℕ → Bool) → LowestNode (count t) fault (count t) None
+    lowest fault = (record { lower = λ j a b. absurd (omega arith); found = inl refl }, tt)
 
 -- after the first node: which refusal comes first
 module _ (t : List ℕ) {rules groups : List ℕ} {f : Found} (h : FoundFrom t 0 rules groups f) where
   -- a node that is lowest is at fault
-  at_fault : (fault : ℕ → Bool) (m : ℕ) → Lowest (count t) fault 0 m → m < count t → fault m ≡ true
-  at_fault fault m o l =
-      ⊎_elim (λ (e : m ≡ count t). absurd (omega arith)) (λ (e : (m < count t) × (fault m ≡ true)). e.1) o.found
+  at_fault : (fault : ℕ → Bool) (m : ℕ) → LowestNode (count t) fault 0 (Some m) → fault m ≡ true
+  at_fault fault m o =
+      ⊎_elim (λ (e : m ≡ count t). absurd (omega (arith, o.1))) (λ (e : (m < count t) × (fault m ≡ true)). e.1) o.0.found
 
   -- no node is
-  none_at_fault : (number : ℕ) (fault : ℕ → Bool) (m : ℕ) → Lowest (count t) fault 0 m → count t ≤ m → None (upward (at_node number fault) 0 (count t))
-  none_at_fault number fault m o l =
-      all_upward (λ r. r.when ≡ false) (at_node number fault) (count t) 0 (λ j a b. (o.lower j (omega arith) (omega arith), tt))
+  none_at_fault : (number : ℕ) (fault : ℕ → Bool) → LowestNode (count t) fault 0 None → Absent (upward (at_node number fault) 0 (count t))
+  none_at_fault number fault o =
+      all_upward (λ r. r.when ≡ false) (at_node number fault) (count t) 0 (λ j a b. (o.0.lower j (omega arith) (omega arith), tt))
 
-  first_at_fault : (number : ℕ) (fault : ℕ → Bool) (m : ℕ) → Lowest (count t) fault 0 m → m < count t →
+  first_at_fault : (number : ℕ) (fault : ℕ → Bool) (m : ℕ) → LowestNode (count t) fault 0 (Some m) →
       First (upward (at_node number fault) 0 (count t)) (row number m (fault m))
-  first_at_fault number fault m o l =
-      first_upward (at_node number fault) m (here (at_fault fault m o l)) (count t) 0 (omega arith) (omega arith) (λ j a b. (o.lower j (omega arith) b, tt))
+  first_at_fault number fault m o =
+      first_upward (at_node number fault) m (here (at_fault fault m o)) (count t) 0 (omega arith) (omega (arith, o.1)) (λ j a b. (o.0.lower j (omega arith) b, tt))
 
   -- 14
-  pub found_mixed : f.mixed < count t → refused 14 f.mixed ≡ profiled t
+  pub found_mixed : (m : ℕ) → f.mixed ≡ Some m → refused 14 m ≡ profiled t
   unfolding profile_refusals
-  found_mixed l =
+  found_mixed m e =
       sym
       (settled_first refused (counted (count t)) (profile_refusals t)
       (first_in (mixed t ++ in_only_one t) (root t)
-      (first_in (mixed t) (in_only_one t) (first_at_fault 14 (mixed_group t) f.mixed h.mixed l))))
+      (first_in (mixed t) (in_only_one t) (first_at_fault 14 (mixed_group t) m (subst (LowestNode (count t) (mixed_group t) 0) e h.mixed)))))
 
-  module _ (none : count t ≤ f.mixed) where
-    none_mixed : None (mixed t)
-    none_mixed = none_at_fault 14 (mixed_group t) f.mixed h.mixed none
+  module _ (none : f.mixed ≡ None) where
+    none_mixed : Absent (mixed t)
+    none_mixed = none_at_fault 14 (mixed_group t) (subst (LowestNode (count t) (mixed_group t) 0) none h.mixed)
 
     -- 15
-    pub found_in_only_one : f.in_only_one < count t → refused 15 f.in_only_one ≡ profiled t
+    pub found_in_only_one : (m : ℕ) → f.in_only_one ≡ Some m → refused 15 m ≡ profiled t
     unfolding profile_refusals
-    found_in_only_one l =
+    found_in_only_one m e =
         sym
         (settled_first refused (counted (count t)) (profile_refusals t)
         (first_in (mixed t ++ in_only_one t) (root t)
-        (first_after (mixed t) (in_only_one t) none_mixed (first_at_fault 15 (rule_in_only_one t) f.in_only_one h.in_only_one l))))
+        (first_after (mixed t) (in_only_one t) none_mixed
+        (first_at_fault 15 (rule_in_only_one t) m (subst (LowestNode (count t) (rule_in_only_one t) 0) e h.in_only_one)))))
 
-    module _ (none-one : count t ≤ f.in_only_one) where
-      none_before : None (mixed t ++ in_only_one t)
+    module _ (none-one : f.in_only_one ≡ None) where
+      none_before : Absent (mixed t ++ in_only_one t)
       none_before =
           all_join (λ r. r.when ≡ false) (mixed t) (in_only_one t) none_mixed
-          (none_at_fault 15 (rule_in_only_one t) f.in_only_one h.in_only_one none-one)
+          (none_at_fault 15 (rule_in_only_one t) (subst (LowestNode (count t) (rule_in_only_one t) 0) none-one h.in_only_one))
 
       -- 16
       pub found_rule_root : is_rule t 0 ≡ true → refused 16 0 ≡ profiled t

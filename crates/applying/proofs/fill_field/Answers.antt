@@ -5,5 +5,5 @@ use Rattle.applying.proofs.fill_field.Goals as goal
 
 pub returns-clause-field_filled : goal.returns-clause-field_filled
 returns-clause-field_filled c =
-    with_runs c.args.table.now c.args.field c.fill_values.new.row c.from.result c.mark_runs.new.row (omega (arith, c.maximum_at.ensures)) c.mark_runs.array_long
+    with_runs c.args.table.bytes.now c.args.field c.fill_values.new.row c.from.result c.mark_runs.new.row (omega (arith, c.maximum_at.ensures)) c.mark_runs.array_long
     c.mark_runs.ensures.kept c.mark_runs.ensures.runs c.fill_values.ensures.values_filled

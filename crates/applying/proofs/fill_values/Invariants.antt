@@ -5,4 +5,4 @@ use Rattle.applying.proofs.Filling.{ValuesBelow}
 use Rattle.applying.proofs.fill_values.Given as goal
 
 abbrev pub invariant-loop-value : goal.invariant-loop-value
-invariant-loop-value l = ValuesBelow l.table l.field l.row l.value × KeptPastMaximum (maximum l.table l.field) l.initial.row l.row
+invariant-loop-value l = ValuesBelow l.table.bytes.now l.field l.row l.value × KeptPastMaximum (maximum l.table.bytes.now l.field) l.initial.row l.row

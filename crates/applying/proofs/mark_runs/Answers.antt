@@ -1,16 +1,16 @@
 -- `applying::mark_runs` meets its contract: the runs of the values so far are marked in the row.
-use mathlib.Core.Path.{◌≡◌, sym, ◌∙◌}
+use mathlib.Core.Path.{◌≡◌}
 use mathlib.Core.Bool.{true}
 use Rattle.sets.specs.Sets.{same}
-use Rattle.sets.proofs.SetNumbers.{same_equal}
 use Rattle.applying.specs.Filled.{set_at}
 use Rattle.applying.proofs.Marking.{marked_all, marked_other, marked_same}
+use Rattle.std.proofs.Common.{rules}
 use Rattle.applying.proofs.mark_runs.Goals as goal
 use Rattle.applying.proofs.mark_runs.Goals.{After-eq, then-eq, else-eq}
 
 alike : (c : After-eq) → c.eq.result ≡ true → set_at c.loop-value.row c.loop-value.start ≡ set_at c.loop-value.row c.loop-value.value
 unfolding same
-alike c e = same_equal _ _ (sym c.eq.ensures ∙ e)
+alike c e = search rules
 
 pub loop-value-preserved : goal.loop-value-preserved
 loop-value-preserved c =

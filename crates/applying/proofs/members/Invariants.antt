@@ -4,7 +4,7 @@ use Rattle.applying.proofs.FieldAlone.{MembersBelow}
 use Rattle.applying.proofs.members.Given as goal
 
 abbrev pub invariant-loop-i : goal.invariant-loop-i
-invariant-loop-i l = MembersBelow l.table l.field l.value l.set l.i
+invariant-loop-i l = MembersBelow l.table.bytes.now l.field l.value l.set l.i
 
 abbrev pub decreases-loop-i : goal.decreases-loop-i
 decreases-loop-i l = l.count - l.i

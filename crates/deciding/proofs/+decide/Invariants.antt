@@ -8,7 +8,7 @@ abbrev pub decreases-decide : goal.decreases-decide
 decreases-decide l = most - l.i
 
 abbrev pub invariant-loop-child : goal.invariant-loop-child
-invariant-loop-child l = (l.from ≤ l.end) × Before (has l.applying) l.table l.i l.end l.from l.running
+invariant-loop-child l = (l.from ≤ l.end) × Before (has l.applying) l.table.bytes.now l.i l.end l.from l.running
 
 abbrev pub decreases-loop-child : goal.decreases-loop-child
 decreases-loop-child l = l.end - l.from

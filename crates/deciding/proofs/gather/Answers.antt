@@ -12,12 +12,12 @@ use Rattle.deciding.proofs.gather.Goals as goal
 use Rattle.deciding.proofs.gather.Goals.{In_default, in-0-to-3, in_default-kind_at}
 
 pub overflow_add-stored : goal.overflow_add-stored
-overflow_add-stored c = omega (arith, stored_few c.loop-i.invariant.1, c.requires.few)
+overflow_add-stored c = omega (arith, stored_few c.loop-i.invariant.1, c.args.table.accepted.few)
 
 pub loop-i-preserved : goal.loop-i-preserved
 loop-i-preserved c =
     let n = c.in-Some.ensures.0 in
-    let inside : c.in-Some.i < count c.args.table.now = omega (arith, c.count_at-count.ensures.0, c.in-Some.ensures.1) in
+    let inside : c.in-Some.i < count c.args.table.bytes.now = omega (arith, c.count_at-count.ensures.0, c.in-Some.ensures.1) in
     let b = before_member c.loop-i.invariant.1 n.from (omega arith) n.between in (
       omega (arith, c.in-Some.ensures.1),
       elim c.if-kind_at-lt4.branch [
@@ -26,7 +26,7 @@ loop-i-preserved c =
       ],
     )
 
-all_stored : (c : In_default) → (c.loop-i.stored ≡ length (cards (has c.args.applying) c.args.table.now)) × (c.loop-i.list ≡ sets c.args.list.now 0 (cards (has c.args.applying) c.args.table.now))
+all_stored : (c : In_default) → (c.loop-i.stored ≡ length (cards (has c.args.applying) c.args.table.bytes.now)) × (c.loop-i.list ≡ sets c.args.list.now 0 (cards (has c.args.applying) c.args.table.bytes.now))
 all_stored c =
     before_end c.loop-i.invariant.1 (omega (arith, c.count_at-count.ensures.0, c.loop-i.invariant.0))
     (λ m p q. c.in_default.ensures m p (omega (arith, c.count_at-count.ensures.0)))

@@ -1,9 +1,11 @@
 -- `lookup::look_up_checked` meets its contract, on each way out.
-use Rattle.std.proofs.Common.{◌≡◌, ◌+◌, ◌-◌, ◌≤◌, refl, sym, ap, ◌∙◌, [], length, take, drop, arith}
+use Rattle.std.proofs.Common.{◌≡◌, ℕ, List, ◌+◌, ◌≤◌, refl, sym, ap, ◌∙◌, [], length, take, drop, arith}
 use lib.ListN.{length-take, length-drop}
 use lib.Seq.{sets}
 use Rattle.answer.specs.Fields.{fields}
+use Rattle.answer.specs.Answers.{ruled}
 use Rattle.answer.specs.Requests.{field_fault}
+use Rattle.answer.specs.declared.Answer.{Answer}
 use Rattle.answer.proofs.FirstField.{none_over_within, found_one, found_none}
 use Rattle.answer.proofs.RequestRefusals.{asked_over, asked_short, asked_ruled}
 use Rattle.answer.proofs.Stored.{stored_cleared}
@@ -11,6 +13,7 @@ use Rattle.diagram.specs.Layout.{maximum, count_at}
 use Rattle.diagram.specs.LookUp.{ruled_by}
 use Rattle.diagram.proofs.LookUpAnswers.{maxima_fault, reached_cards, reached_count, reached_decision}
 use Rattle.soundness.proofs.CheckedNumbers.{numbers_sound}
+use Rattle.lookup.proofs.Halving.{read_at}
 use Rattle.lookup.proofs.look_up_checked.Goals as goal
 use Rattle.lookup.proofs.look_up_checked.Goals.{After-descend-place, In_default}
 
@@ -51,21 +54,34 @@ returns-then-cards-count c =
     (omega (arith, c.if-cards-count.true)) refl c.requires in
     record { value = p.0; cards_after = p.1 }
 
+-- an answer that gives a ruling gives that of its own parts
+own_parts : (a : Answer) (d k m : ℕ) → a ≡ ruled d k m → a ≡ ruled a.decision a.count a.subjects
+own_parts a d k m e = e ∙ sym (ap (λ x. ruled x.decision x.count x.subjects) e)
+
+-- the numbers from place f on are the cards of the terminal at place p
+cards_kept : (d list base cards : List ℕ) (f m p : ℕ) → list ≡ sets base 0 (take m (drop f d)) → f ≡ p + 3 → m ≡ count_at d p →
+    take (count_at d p) (drop (p + 3) d) ≡ cards → list ≡ sets base 0 cards
+cards_kept d list base cards f m p e ef em ec =
+    e ∙ ap (sets base 0) (ap (λ n. take n (drop f d)) em ∙ ap (λ k. take (count_at d p) (drop k d)) ef ∙ ec)
+
 pub returns : goal.returns
 returns c =
     let d = c.args.diagram.numbers.now in
     let q = c.args.request.values in
+    let s = numbers_sound c.args.diagram in
     let p = c.descend-place.result in
     let r = ruled_by d q in
     let n = length c.args.cards.now in
-    let count = p + 3 + c.from-count.result - (p + 3) in
-    let whole : count ≡ count_at d p = omega arith in
-    let cards = reached_cards d q (numbers_sound c.args.diagram) p c.descend-place.ensures in
+    let answer = c.ruled.result in
     let there = count_there (goal.at.returns c).After-descend-place in
-    let a = asked_ruled [] (maximum d) q 0 (omega arith) r 0 n c.ruled.result c.store.new.list tt
-    (field_fault (maximum d) q 0) refl (none_at_fault (goal.at.returns c).In_default) c.from-count.result (c.from-count.ensures ∙ there) _ 0
-    (omega (arith, c.if-cards-count.false)) (reached_decision d q (numbers_sound c.args.diagram) p c.descend-place.ensures) refl c.ruled.ensures
+    let decision = read_at d _ answer.decision (ap (λ (a : Answer). a.decision) c.ruled.ensures) (p + 1) (omega arith) in
+    let count : answer.count ≡ length r.cards = omega (arith, ap (λ (a : Answer). a.count) c.ruled.ensures, c.from-count.ensures, there) in
+    let subjects : answer.subjects ≡ 0 = omega (arith, ap (λ (a : Answer). a.subjects) c.ruled.ensures) in
+    let a = asked_ruled [] (maximum d) q 0 (omega arith) r 0 n answer c.store.new.list tt (field_fault (maximum d) q 0) refl
+    (none_at_fault (goal.at.returns c).In_default) answer.count count answer.decision answer.subjects (omega (arith, c.from-count.ensures, there))
+    (decision ∙ reached_decision d q s p c.descend-place.ensures) subjects (own_parts answer _ _ _ c.ruled.ensures)
     (stored_cleared r.cards c.store.new.list c.args.cards.now n c.requires
-    (c.store.ensures ∙ ap (sets c.args.cards.now 0) (ap (λ k. take k (drop (p + 3) d)) whole ∙ cards))
-    (omega (arith, there, c.if-cards-count.false))) in
+    (cards_kept d c.store.new.list c.args.cards.now r.cards _ _ p c.store.ensures (omega arith) (omega (arith, c.from-count.ensures))
+    (reached_cards d q s p c.descend-place.ensures))
+    (omega (arith, there, c.from-count.ensures))) in
     record { value = a.0; cards_after = a.1 }

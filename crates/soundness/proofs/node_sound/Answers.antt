@@ -1,5 +1,6 @@
 -- `soundness::node_sound` meets its contract: the edges passed so far are right.
-use Rattle.std.proofs.Common.{◌≡◌, ◌+◌, ◌<◌, refl, ap, ◌∙◌, ⊎_elim, [], get_or, take, arith}
+use Rattle.std.proofs.Common.{◌≡◌, ◌+◌, ◌<◌, ap, ◌∙◌, ⊎_elim, [], get_or, take, arith}
+use Rattle.std.proofs.lemmas.Bool.Decides.{nat_tests}
 use Rattle.std.proofs.lemmas.Grind.{common_steps}
 use Rattle.answer.specs.Fields.{fields}
 use Rattle.diagram.specs.Sound.{next_level}
@@ -56,4 +57,4 @@ loop-last-preserved c =
 pub returns : goal.returns
 returns c =
     edges_decide c.args.diagram.now c.args.place c.loop-last.invariant (omega (arith, c.edges_of-last-items.ensures.count)) c.requires.bound.0 (omega arith)
-    c.from-2.result (c.from-2.ensures ∙ ap (λ n. number_at c.args.diagram.now (1 + n)) c.from-level.ensures) _ refl
+    c.from-2.result (c.from-2.ensures ∙ ap (λ n. number_at c.args.diagram.now (1 + n)) c.from-level.ensures) _ (λ t. grind (arith, nat_tests, t)) (λ t e. grind (arith, nat_tests, t, e))

@@ -5,19 +5,19 @@ use Rattle.attaching.proofs.Copied.{part_fits, base_fits, copied_both}
 use Rattle.std.proofs.Common.{arith}
 use Rattle.attaching.proofs.writing.join.Goals as goal
 
-pub slice_bounds-store_bytes-start : goal.slice_bounds-store_bytes-start
-slice_bounds-store_bytes-start c = omega (arith, c.header_size-header.ensures, header_held c.args.expansion.now c.requires.well_formed.1.records)
+pub slice_bounds-store-start : goal.slice_bounds-store-start
+slice_bounds-store-start c = omega (arith, c.header_size-header.ensures, header_held c.args.expansion.now c.requires.well_formed.1.records)
 
-pub slice_bounds-store_bytes-count : goal.slice_bounds-store_bytes-count
-slice_bounds-store_bytes-count c = omega (arith, c.header_size-header.ensures, header_held c.args.expansion.now c.requires.well_formed.1.records)
+pub slice_bounds-store-count : goal.slice_bounds-store-count
+slice_bounds-store-count c = omega (arith, c.header_size-header.ensures, header_held c.args.expansion.now c.requires.well_formed.1.records)
 
-pub store_bytes-requires : goal.store_bytes-requires
-store_bytes-requires c = base_fits c.args.base.now c.args.expansion.now (length c.args.table.now) c.requires.expansion_in_bounds
+pub store-requires : goal.store-requires
+store-requires c = base_fits c.args.base.now c.args.expansion.now (length c.args.table.now) c.requires.expansion_in_bounds
 
-pub store_bytes-requires-2 : goal.store_bytes-requires-2
-store_bytes-requires-2 c = part_fits c.args.base.now c.args.expansion.now c.header_size-header.result c.header_size-header.ensures _
-    (omega (arith, c.requires.expansion_in_bounds, c.store_bytes.auto.table))
+pub store-requires-2 : goal.store-requires-2
+store-requires-2 c = part_fits c.args.base.now c.args.expansion.now c.header_size-header.result c.header_size-header.ensures _
+    (omega (arith, c.requires.expansion_in_bounds, c.store.auto.list))
 
 pub returns : goal.returns
-returns c = copied_both c.args.base.now c.args.expansion.now c.header_size-header.result c.header_size-header.ensures c.args.table.now c.store_bytes.new.table
-    c.store_bytes-2.new.table c.store_bytes.ensures c.store_bytes-2.ensures
+returns c = copied_both c.args.base.now c.args.expansion.now c.header_size-header.result c.header_size-header.ensures c.args.table.now c.store.new.list
+    c.store-2.new.list c.store.ensures c.store-2.ensures

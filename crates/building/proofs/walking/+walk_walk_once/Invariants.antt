@@ -20,11 +20,11 @@ decreases-walk_once l = 2 * (fields - l.field) + 1
 abbrev pub invariant-walk-loop-value : goal.invariant-walk-loop-value
 invariant-walk-loop-value l = record {
   inside : l.field < fields;
-  most_is : l.most ≡ maximum l.table l.field;
+  most_is : l.most ≡ maximum l.table.bytes.now l.field;
   most_small : l.most ≤ 255;
   near_small : IfSome l.near (λ known. known.place < most_places);
-  before : Before (level_by l.table l.field (has l.possible)) (Held (Remembers l.table l.initial.memory.seen) l.initial.diagram l.initial.memory.index.slots l.initial.memory.index.end)
-      (RemembersNear l.table l.memory.seen (l.field + 1) l.near) (length l.initial.diagram) l.fn.memory.edges l.diagram l.memory.index.slots l.memory.edges
+  before : Before (level_by l.table.bytes.now l.field (has l.possible)) (Held (Remembers l.table.bytes.now l.initial.memory.seen) l.initial.diagram l.initial.memory.index.slots l.initial.memory.index.end)
+      (RemembersNear l.table.bytes.now l.memory.seen (l.field + 1) l.near) (length l.initial.diagram) l.fn.memory.edges l.diagram l.memory.index.slots l.memory.edges
       l.memory.index.end l.value;
 }
 

@@ -8,19 +8,19 @@ use Rattle.std.proofs.Common.{arith}
 use Rattle.building.proofs.walking.enter_ruling.Goals as goal
 
 pub slice_bounds-cards-end : goal.slice_bounds-cards-end
-slice_bounds-cards-end c = stored_long c.args.table.now (has c.args.applying) (zeros 127) c.rule_set-ruled.new.list c.rule_set-ruled.result.decision c.rule_set-ruled.result.count c.requires.well_formed.0 refl c.rule_set-ruled.ensures.decision_value.0 c.rule_set-ruled.ensures.decision_value.1 c.rule_set-ruled.ensures.list_after
+slice_bounds-cards-end c = stored_long c.args.table.bytes.now (has c.args.applying) (zeros 127) c.rule_set-ruled.new.list c.rule_set-ruled.result.decision c.rule_set-ruled.result.count c.args.table.accepted refl c.rule_set-ruled.ensures.decision_value.0 c.rule_set-ruled.ensures.decision_value.1 c.rule_set-ruled.ensures.list_after
 
 pub slice_bounds-enter_terminal-end : goal.slice_bounds-enter_terminal-end
-slice_bounds-enter_terminal-end c = sym (length-take-le c.rule_set-ruled.result.count c.rule_set-ruled.new.list (stored_long c.args.table.now (has c.args.applying) (zeros 127) c.rule_set-ruled.new.list c.rule_set-ruled.result.decision c.rule_set-ruled.result.count c.requires.well_formed.0 refl c.rule_set-ruled.ensures.decision_value.0 c.rule_set-ruled.ensures.decision_value.1 c.rule_set-ruled.ensures.list_after))
+slice_bounds-enter_terminal-end c = sym (length-take-le c.rule_set-ruled.result.count c.rule_set-ruled.new.list (stored_long c.args.table.bytes.now (has c.args.applying) (zeros 127) c.rule_set-ruled.new.list c.rule_set-ruled.result.decision c.rule_set-ruled.result.count c.args.table.accepted refl c.rule_set-ruled.ensures.decision_value.0 c.rule_set-ruled.ensures.decision_value.1 c.rule_set-ruled.ensures.list_after))
 
 pub enter_terminal-requires : goal.enter_terminal-requires
-enter_terminal-requires c = let long = stored_long c.args.table.now (has c.args.applying) (zeros 127) c.rule_set-ruled.new.list c.rule_set-ruled.result.decision c.rule_set-ruled.result.count c.requires.well_formed.0 refl c.rule_set-ruled.ensures.decision_value.0 c.rule_set-ruled.ensures.decision_value.1 c.rule_set-ruled.ensures.list_after in
-    let few = few_counted c.args.table.now (has c.args.applying) (zeros 127) c.rule_set-ruled.new.list c.rule_set-ruled.result.decision c.rule_set-ruled.result.count c.requires.well_formed.0 refl c.rule_set-ruled.ensures.decision_value.0 c.rule_set-ruled.ensures.decision_value.1 c.rule_set-ruled.ensures.list_after in
+enter_terminal-requires c = let long = stored_long c.args.table.bytes.now (has c.args.applying) (zeros 127) c.rule_set-ruled.new.list c.rule_set-ruled.result.decision c.rule_set-ruled.result.count c.args.table.accepted refl c.rule_set-ruled.ensures.decision_value.0 c.rule_set-ruled.ensures.decision_value.1 c.rule_set-ruled.ensures.list_after in
+    let few = few_counted c.args.table.bytes.now (has c.args.applying) (zeros 127) c.rule_set-ruled.new.list c.rule_set-ruled.result.decision c.rule_set-ruled.result.count c.args.table.accepted refl c.rule_set-ruled.ensures.decision_value.0 c.rule_set-ruled.ensures.decision_value.1 c.rule_set-ruled.ensures.list_after in
     (c.requires.room, omega (arith, few, length-take-le c.rule_set-ruled.result.count c.rule_set-ruled.new.list long))
 
 pub returns : goal.returns
 returns c = record {
   bounded = c.enter_terminal.ensures.bounded;
-  standing = ruling_entered c.args.table.now (has c.args.applying) (zeros 127) c.rule_set-ruled.new.list c.rule_set-ruled.result.decision c.rule_set-ruled.result.count c.requires.well_formed.0 refl c.rule_set-ruled.ensures.decision_value.0 c.rule_set-ruled.ensures.decision_value.1 c.rule_set-ruled.ensures.list_after
+  standing = ruling_entered c.args.table.bytes.now (has c.args.applying) (zeros 127) c.rule_set-ruled.new.list c.rule_set-ruled.result.decision c.rule_set-ruled.result.count c.args.table.accepted refl c.rule_set-ruled.ensures.decision_value.0 c.rule_set-ruled.ensures.decision_value.1 c.rule_set-ruled.ensures.list_after
       c.args.diagram.now c.args.index.now.slots c.enter_terminal.new.diagram c.enter_terminal.new.self.slots c.args.index.now.end c.enter_terminal.new.self.end c.enter_terminal.result c.enter_terminal.ensures.standing;
 }

@@ -7,7 +7,7 @@ pub returns : goal.returns
 returns c =
     let s = c.args in
     let n = terminal_length s.decision s.cards.now _ refl in
-    let w = c.store.ensures ∙ terminal_written s.room.now s.cards.now s.decision in record {
+    let w = (rw c.from.ensures at c.store.ensures) ∙ terminal_written s.room.now s.cards.now s.decision in record {
       value = refl;
       room_after = w;
       room_after_2 = start_is s.room.now _ _ _ w (sym n) (omega (arith, n));

@@ -1,7 +1,7 @@
 -- `listing::text::Text::put_items` meets its contract: the numbers before the next are written.
 use Rattle.std.proofs.Common.{ℕ, ◌+◌, refl, sym, ap, [], ◌∷◌, ◌++◌, drop, get_or}
 use Rattle.listing.proofs.Items.{items_next, items_end}
-use Rattle.listing.proofs.Writing.{Partly, partly_none, partly_first, partly_more, partly_all, puts_as}
+use Rattle.listing.proofs.Writing.{Partly, partly_first, partly_more, partly_all, puts_as}
 use Rattle.listing.specs.Text.{decimal, space, items}
 use Rattle.listing.proofs.text.Text.put_items.Goals as goal
 use Rattle.listing.proofs.text.Text.put_items.Goals.{After-put}
@@ -10,9 +10,6 @@ use Rattle.listing.proofs.text.Text.put_items.Goals.{After-put}
 spaced : (c : After-put) → let n = c.args.numbers.now in
     Partly c.args.self.now (items n) c.put.new.self (decimal (get_or n c.loop-number.number-index 0) ++ items (drop (c.loop-number.number-index + 1) n))
 spaced c = partly_more c.loop-number.invariant (items_next c.args.numbers.now c.loop-number.number-index c.loop-number-test.true) c.put.ensures
-
-pub loop-number-init : goal.loop-number-init
-loop-number-init c = partly_none refl
 
 pub put-requires : goal.put-requires
 put-requires c =
