@@ -56,8 +56,9 @@ fn rule_match(table: Table, i: usize, kind: u8, cards: &mut [u16], count: usize)
 }
 
 // Rules node i, which ends at end, for members to each of which it applies. The cards of matching rules are stored from place
-// count on, as far as the list reaches, and counted. Table, ways and other values go down side by side: as one struct, rulings took
-// 1.03 to 1.11 times as long.
+// count on, as far as the list reaches, and counted. Table, ways and other values go down side by side: as one struct, by value or by
+// reference, rulings took up to 1.09 times as long, and missed the bar of 1.1 times plain C++ where there are few nodes. So do list and
+// count: of a struct that holds the lent list each call would have to promise as well that it is still the same list.
 #[cycle(rule_node_rule_run)]
 pub(crate) fn rule_node(
     table: Table,
