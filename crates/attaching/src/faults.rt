@@ -4,11 +4,11 @@ ghost use Rattle.answer.specs.Fields.{fields};
 ghost use Rattle.answer.specs.Numbers.{number_or_zero};
 ghost use Rattle.answer.specs.Refusals.{first_number};
 ghost use Rattle.encoding.specs.Layout.{version, maximum, HeaderHeld};
-ghost use Rattle.table.specs.WellFormed.{WellFormed};
 ghost use Rattle.attaching.specs.Attached.{headers_differ, too_large, fit_refusals};
 
 use answer::{FIELDS, Refusal};
 use encoding::layout::{NODES, VERSION, count_at, maximum_at};
+use table::Table;
 use table::levels::has_last_level;
 use table::reading::rule_at;
 
@@ -30,22 +30,20 @@ fn headers_differ(base: &[u8], expansion: &[u8]) -> bool
 }
 
 // Refusal 19: too many nodes in all, or a node of the expansion on the last level, since all of them come to stand one level deeper.
-fn too_large(base: &[u8], expansion: &[u8]) -> bool
-    requires well_formed { WellFormed base.now × WellFormed expansion.now }
-    requires base_value { version base.now ≡ version expansion.now }
-    ensures { result ≡ too_large base.now expansion.now }
+fn too_large(base: Table, expansion: Table) -> bool
+    requires { version base.bytes.now ≡ version expansion.bytes.now }
+    ensures { result ≡ too_large base.entry.bytes.now expansion.entry.bytes.now }
 {
-    NODES < count_at(base) + count_at(expansion) || has_last_level(expansion)
+    NODES < count_at(base.bytes) + count_at(expansion.bytes) || has_last_level(expansion)
 }
 
 // The first of refusals 17, 18 and 19.
-pub(crate) fn fit_fault(base: &[u8], expansion: &[u8]) -> Option<Refusal>
-    requires { WellFormed base.now × WellFormed expansion.now }
-    ensures { number_or_zero result ≡ first_number (fit_refusals base.now expansion.now) }
+pub(crate) fn fit_fault(base: Table, expansion: Table) -> Option<Refusal>
+    ensures { number_or_zero result ≡ first_number (fit_refusals base.entry.bytes.now expansion.entry.bytes.now) }
 {
-    if rule_at(base, 0) {
+    if rule_at(base.bytes, 0) {
         Some(Refusal::BaseIsRule)
-    } else if headers_differ(base, expansion) {
+    } else if headers_differ(base.bytes, expansion.bytes) {
         Some(Refusal::HeadersDiffer)
     } else if too_large(base, expansion) {
         Some(Refusal::TooLarge)

@@ -7,16 +7,16 @@ use Rattle.std.proofs.Common.{arith}
 use Rattle.attaching.proofs.faults.too_large.Goals as goal
 
 pub count_at-requires : goal.count_at-requires
-count_at-requires c = header_held c.args.base.now c.requires.well_formed.0.records
+count_at-requires c = header_held c.args.base.bytes.now c.args.base.accepted.records
 
 pub count_at-requires-2 : goal.count_at-requires-2
-count_at-requires-2 c = header_held c.args.expansion.now c.requires.well_formed.1.records
+count_at-requires-2 c = header_held c.args.expansion.bytes.now c.args.expansion.accepted.records
 
 pub returns-then-count_at-gt-NODES : goal.returns-then-count_at-gt-NODES
-returns-then-count_at-gt-NODES c = lt-ltb _ _ c.if-count_at-gt-NODES.true ∙ too_many c.args.base.now c.args.expansion.now c.requires.well_formed.0 c.requires.well_formed.1 c.requires.base_value
+returns-then-count_at-gt-NODES c = lt-ltb _ _ c.if-count_at-gt-NODES.true ∙ too_many c.args.base.bytes.now c.args.expansion.bytes.now c.args.base.accepted c.args.expansion.accepted c.requires
     (omega (arith, c.count_at.ensures.0, c.count_at-2.ensures.0, c.if-count_at-gt-NODES.true))
 
 pub returns-else-count_at-gt-NODES : goal.returns-else-count_at-gt-NODES
 returns-else-count_at-gt-NODES c = c.has_last_level.ensures
-    ∙ by_levels c.args.base.now c.args.expansion.now c.requires.well_formed.0 c.requires.well_formed.1 c.requires.base_value
+    ∙ by_levels c.args.base.bytes.now c.args.expansion.bytes.now c.args.base.accepted c.args.expansion.accepted c.requires
     (omega (arith, c.count_at.ensures.0, c.count_at-2.ensures.0, c.if-count_at-gt-NODES.false))

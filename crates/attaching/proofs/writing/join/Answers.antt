@@ -6,18 +6,18 @@ use Rattle.std.proofs.Common.{arith}
 use Rattle.attaching.proofs.writing.join.Goals as goal
 
 pub slice_bounds-store-start : goal.slice_bounds-store-start
-slice_bounds-store-start c = omega (arith, c.header_size-header.ensures, header_held c.args.expansion.now c.requires.well_formed.1.records)
+slice_bounds-store-start c = omega (arith, c.header_size-header.ensures, header_held c.args.expansion.bytes.now c.args.expansion.accepted.records)
 
 pub slice_bounds-store-count : goal.slice_bounds-store-count
-slice_bounds-store-count c = omega (arith, c.header_size-header.ensures, header_held c.args.expansion.now c.requires.well_formed.1.records)
+slice_bounds-store-count c = omega (arith, c.header_size-header.ensures, header_held c.args.expansion.bytes.now c.args.expansion.accepted.records)
 
 pub store-requires : goal.store-requires
-store-requires c = base_fits c.args.base.now c.args.expansion.now (length c.args.table.now) c.requires.expansion_in_bounds
+store-requires c = base_fits c.args.base.bytes.now c.args.expansion.bytes.now (length c.args.table.now) c.requires
 
 pub store-requires-2 : goal.store-requires-2
-store-requires-2 c = part_fits c.args.base.now c.args.expansion.now c.header_size-header.result c.header_size-header.ensures _
-    (omega (arith, c.requires.expansion_in_bounds, c.store.auto.list))
+store-requires-2 c = part_fits c.args.base.bytes.now c.args.expansion.bytes.now c.header_size-header.result c.header_size-header.ensures _
+    (omega (arith, c.requires, c.store.auto.list))
 
 pub returns : goal.returns
-returns c = copied_both c.args.base.now c.args.expansion.now c.header_size-header.result c.header_size-header.ensures c.args.table.now c.store.new.list
+returns c = copied_both c.args.base.bytes.now c.args.expansion.bytes.now c.header_size-header.result c.header_size-header.ensures c.args.table.now c.store.new.list
     c.store-2.new.list c.store.ensures c.store-2.ensures

@@ -12,23 +12,20 @@ use Rattle.std.proofs.Common.{arith}
 use Rattle.attaching.proofs.writing.write_attached.Goals as goal
 
 pub count_at-base_nodes-requires : goal.count_at-base_nodes-requires
-count_at-base_nodes-requires c = header_held c.args.base.now c.requires.well_formed.0.records
+count_at-base_nodes-requires c = header_held c.args.base.bytes.now c.args.base.accepted.records
 
 pub count_at-requires : goal.count_at-requires
-count_at-requires c = header_held c.args.expansion.now c.requires.well_formed.1.records
+count_at-requires c = header_held c.args.expansion.bytes.now c.args.expansion.accepted.records
 
 pub join-requires : goal.join-requires
-join-requires c = record {
-  well_formed = c.requires.well_formed;
-  expansion_in_bounds = (omega (arith, length_attached c.args.base.now c.args.expansion.now, c.requires.table_value.1));
-}
+join-requires c = omega (arith, length_attached c.args.base.bytes.now c.args.expansion.bytes.now, c.requires.1)
 
 pub overflow_sub-size : goal.overflow_sub-size
 overflow_sub-size c = omega (
   arith,
   c.attached_size-size.ensures.0,
-  length_attached c.args.base.now c.args.expansion.now,
-  joined_long c.args.base.now c.args.expansion.now c.requires.well_formed.0 c.requires.well_formed.1,
+  length_attached c.args.base.bytes.now c.args.expansion.bytes.now,
+  joined_long c.args.base.bytes.now c.args.expansion.bytes.now c.args.base.accepted c.args.expansion.accepted,
 )
 
 -- the bytes that fit
@@ -40,27 +37,27 @@ long : (b e : List ℕ) (k : ℕ) → k ≡ length (attached_bytes b e) → k - 
 long b e k q = ap (λ n. n - 2) (q ∙ length_attached b e)
 
 pub put_bytes_after-requires : goal.put_bytes_after-requires
-put_bytes_after-requires c = copied_there c.args.base.now c.args.expansion.now c.requires.well_formed.0 c.requires.well_formed.1 (length c.args.table.now)
-    (fits c.args.base.now c.args.expansion.now (length c.args.table.now) c.requires.table_value.1) c.args.table.now c.join.new.table c.requires.table_value.0
+put_bytes_after-requires c = copied_there c.args.base.bytes.now c.args.expansion.bytes.now c.args.base.accepted c.args.expansion.accepted (length c.args.table.now)
+    (fits c.args.base.bytes.now c.args.expansion.bytes.now (length c.args.table.now) c.requires.1) c.args.table.now c.join.new.table c.requires.0
     c.join.ensures
 
 pub put_count-requires : goal.put_count-requires
-put_count-requires c = long_there c.args.base.now c.args.expansion.now c.requires.well_formed.0 c.requires.well_formed.1 (length c.args.table.now)
-    (fits c.args.base.now c.args.expansion.now (length c.args.table.now) c.requires.table_value.1) c.args.table.now c.join.new.table c.requires.table_value.0
+put_count-requires c = long_there c.args.base.bytes.now c.args.expansion.bytes.now c.args.base.accepted c.args.expansion.accepted (length c.args.table.now)
+    (fits c.args.base.bytes.now c.args.expansion.bytes.now (length c.args.table.now) c.requires.1) c.args.table.now c.join.new.table c.requires.0
     c.join.ensures c.put_bytes_after.new.table
-    (c.put_bytes_after.ensures ∙ ap (with_bytes_after c.join.new.table) (long c.args.base.now c.args.expansion.now c.attached_size-size.result c.attached_size-size.ensures.0))
+    (c.put_bytes_after.ensures ∙ ap (with_bytes_after c.join.new.table) (long c.args.base.bytes.now c.args.expansion.bytes.now c.attached_size-size.result c.attached_size-size.ensures.0))
 
 pub put_span-requires : goal.put_span-requires
-put_span-requires c = root_there c.args.base.now c.args.expansion.now c.requires.well_formed.0 c.requires.well_formed.1 (length c.args.table.now)
-    (fits c.args.base.now c.args.expansion.now (length c.args.table.now) c.requires.table_value.1) c.args.table.now c.join.new.table c.requires.table_value.0
+put_span-requires c = root_there c.args.base.bytes.now c.args.expansion.bytes.now c.args.base.accepted c.args.expansion.accepted (length c.args.table.now)
+    (fits c.args.base.bytes.now c.args.expansion.bytes.now (length c.args.table.now) c.requires.1) c.args.table.now c.join.new.table c.requires.0
     c.join.ensures c.put_bytes_after.new.table
-    (c.put_bytes_after.ensures ∙ ap (with_bytes_after c.join.new.table) (long c.args.base.now c.args.expansion.now c.attached_size-size.result c.attached_size-size.ensures.0))
+    (c.put_bytes_after.ensures ∙ ap (with_bytes_after c.join.new.table) (long c.args.base.bytes.now c.args.expansion.bytes.now c.attached_size-size.result c.attached_size-size.ensures.0))
     c.put_count.new.table (c.put_count.ensures ∙ ap (with_count c.put_bytes_after.new.table) (omega (arith, c.count_at-base_nodes.ensures.0, c.count_at.ensures.0)))
 
 pub returns : goal.returns
-returns c = written_all c.args.base.now c.args.expansion.now c.requires.well_formed.0 c.requires.well_formed.1 (length c.args.table.now)
-    (fits c.args.base.now c.args.expansion.now (length c.args.table.now) c.requires.table_value.1) c.args.table.now c.join.new.table c.requires.table_value.0
+returns c = written_all c.args.base.bytes.now c.args.expansion.bytes.now c.args.base.accepted c.args.expansion.accepted (length c.args.table.now)
+    (fits c.args.base.bytes.now c.args.expansion.bytes.now (length c.args.table.now) c.requires.1) c.args.table.now c.join.new.table c.requires.0
     c.join.ensures c.put_bytes_after.new.table
-    (c.put_bytes_after.ensures ∙ ap (with_bytes_after c.join.new.table) (long c.args.base.now c.args.expansion.now c.attached_size-size.result c.attached_size-size.ensures.0))
+    (c.put_bytes_after.ensures ∙ ap (with_bytes_after c.join.new.table) (long c.args.base.bytes.now c.args.expansion.bytes.now c.attached_size-size.result c.attached_size-size.ensures.0))
     c.put_count.new.table (c.put_count.ensures ∙ ap (with_count c.put_bytes_after.new.table) (omega (arith, c.count_at-base_nodes.ensures.0, c.count_at.ensures.0)))
     c.put_span.new.table (c.put_span.ensures ∙ ap (with_span c.put_count.new.table 0) (omega (arith, c.count_at-base_nodes.ensures.0, c.count_at.ensures.0)))

@@ -3,4 +3,4 @@ use Rattle.table.proofs.LevelByLevel.{Searched}
 use Rattle.table.proofs.levels.has_last_level.Given as goal
 
 abbrev pub invariant-loop-i : goal.invariant-loop-i
-invariant-loop-i l = Searched l.table l.ends l.depth l.i
+invariant-loop-i l = Searched l.table.bytes.now l.ends l.depth l.i
