@@ -1,9 +1,8 @@
 // The lines of a listing.
-ghost use Rattle.std.specs.Prelude.{◌≡◌, ◌+◌, ◌*◌, ◌≤◌, ◌<◌, length};
+ghost use Rattle.std.specs.Prelude.{◌≡◌, ℕ, ◌+◌, ◌*◌, ◌≤◌, ◌<◌, take, drop, length, slice_index_or};
 ghost use Rattle.answer.specs.Fields.{fields};
 ghost use Rattle.answer.specs.Requests.{Within};
-ghost use Rattle.diagram.specs.Layout.{header, most_places, maximum, edges_at};
-ghost use Rattle.diagram.specs.Sound.{Sound};
+ghost use Rattle.diagram.specs.Layout.{header, most_places, maximum, edges_at, count_at};
 ghost use Rattle.diagram.specs.Landed.{Landed};
 ghost use Rattle.listing.specs.Text.{ranges, refused_line, most_line};
 ghost use Rattle.listing.specs.Written.{HasRoom, Puts};
@@ -12,6 +11,7 @@ ghost use Rattle.listing.specs.Paths.{first_at, path_of, line_of, first_line};
 use crate::text::Text;
 use answer::FIELDS;
 use lookup::edge_of;
+use soundness::checked::SoundDiagram;
 
 // Writes the first line, the maxima.
 pub fn fields_line(diagram: &[u16], text: &mut Text)
@@ -51,36 +51,46 @@ pub(crate) fn first_of(diagram: &[u16], place: usize, edge: usize) -> usize
 }
 
 // Writes the ranges of the path that the values take, each with a space after it. Returns the place of the terminal.
-fn put_path(diagram: &[u16], values: [u16; FIELDS], text: &mut Text) -> usize
-    requires sound { Sound fields diagram.now }
-    requires within { Within (maximum diagram.now) values }
-    requires room_for { HasRoom text.old (ranges (path_of diagram.now values)) }
-    ensures landed { Landed diagram.now values result }
-    ensures puts { Puts text.old text.new (ranges (path_of diagram.now values)) }
+fn put_path(diagram: SoundDiagram, values: [u16; FIELDS], text: &mut Text) -> usize
+    requires within { Within (maximum diagram.numbers.now) values }
+    requires room_for { HasRoom text.old (ranges (path_of diagram.numbers.now values)) }
+    ensures landed { Landed diagram.entry.numbers.now values result }
+    ensures puts { Puts text.old text.new (ranges (path_of diagram.entry.numbers.now values)) }
 {
-    let mut place = usize::from(diagram[1]);
+    let numbers = diagram.numbers;
+    let mut place = usize::from(numbers[1]);
     for value in values {
-        let edge = edge_of(diagram, place, value);
-        let low = first_of(diagram, place, edge);
-        text.put_range(low, usize::from(diagram[place + 2 + 2 * edge]));
+        let edge = edge_of(numbers, place, value);
+        let low = first_of(numbers, place, edge);
+        text.put_range(low, usize::from(numbers[place + 2 + 2 * edge]));
         text.put(b' ');
-        place = usize::from(diagram[place + 3 + 2 * edge]);
+        place = usize::from(numbers[place + 3 + 2 * edge]);
     }
     place
 }
 
-// Writes the line of the path that the values take in a sound diagram.
-pub fn line(diagram: &[u16], values: [u16; FIELDS], text: &mut Text)
-    requires sound { Sound fields diagram.now }
-    requires within { Within (maximum diagram.now) values }
-    requires line_fits { text.old.end + most_line ≤ length text.old.bytes.now }
-    ensures puts { Puts text.old text.new (line_of diagram.now values) }
-    ensures upper_bound { text.new.end ≤ text.old.end + most_line }
+// The cards of the terminal at a place.
+fn cards_of(diagram: &[u16], place: usize) -> &[u16]
+    requires { (place < most_places) × (place + 3 + count_at diagram.now place ≤ length diagram.now) }
+    ensures cards { result.now ≡ take (count_at diagram.now place) (drop (place + 3) diagram.now) }
+    ensures small { (i : ℕ) → slice_index_or result.now i 0 < 65536 }
 {
-    let place = put_path(diagram, values, text);
-    text.put_decision(diagram[place + 1] as u8);
     let from = place + 3;
     let to = from + usize::from(diagram[place + 2]);
-    text.put_items(&diagram[from..to]);
+    &diagram[from..to]
+}
+
+// Writes the line of the path that the values take in a sound diagram.
+pub fn line(diagram: SoundDiagram, values: [u16; FIELDS], text: &mut Text)
+    requires within { Within (maximum diagram.numbers.now) values }
+    requires line_fits { text.old.end + most_line ≤ length text.old.bytes.now }
+    ensures puts { Puts text.old text.new (line_of diagram.entry.numbers.now values) }
+    ensures upper_bound { text.new.end ≤ text.old.end + most_line }
+{
+    let numbers = diagram.numbers;
+    let place = put_path(diagram, values, text);
+    let cards = cards_of(numbers, place);
+    text.put_decision(numbers[place + 1] as u8);
+    text.put_items(cards);
     text.end_line();
 }

@@ -2,8 +2,6 @@
 #![tactic(auto)]
 
 ghost use Rattle.std.specs.Prelude.{◌≡◌, length};
-ghost use Rattle.answer.specs.Fields.{fields};
-ghost use Rattle.diagram.specs.Sound.{Sound};
 ghost use Rattle.std.specs.Io.{ReadsAtMost};
 
 use answer::{Answer, FIELDS};
@@ -14,6 +12,7 @@ use listing::LINE;
 use listing::lines::{fields_line, refused_line};
 use listing::pages::fill;
 use listing::text::Text;
+use soundness::checked::SoundDiagram;
 use std::io;
 use std::io::Read;
 
@@ -53,7 +52,9 @@ fn print_rulings(rt: &impl Print, table: &[u8]) -> io::Result<()> {
     if built.number != 0 {
         return print_refusal(rt, built);
     }
-    print_listing(rt, &diagram)
+    // What was built needs no check: it is sound.
+    let sound = SoundDiagram { numbers: &diagram };
+    print_listing(rt, sound)
 }
 
 fn print_refusal(rt: &impl Print, refusal: Answer) -> io::Result<()> {
@@ -64,12 +65,10 @@ fn print_refusal(rt: &impl Print, refusal: Answer) -> io::Result<()> {
 }
 
 // Prints every path of a sound diagram, in rising order, a text full of lines at a time.
-fn print_listing(rt: &impl Print, diagram: &[u16]) -> io::Result<()>
-    requires { Sound fields diagram.now }
-{
+fn print_listing(rt: &impl Print, diagram: SoundDiagram) -> io::Result<()> {
     let mut bytes = empty_page();
     let mut text = Text::new(&mut bytes);
-    fields_line(diagram, &mut text);
+    fields_line(diagram.numbers, &mut text);
     let mut next = Some([0u16; FIELDS]);
     while let Some(values) = next {
         next = fill(diagram, values, &mut text);

@@ -8,28 +8,29 @@ use Rattle.listing.proofs.PathRanges.{ranges_next, ranges_end}
 use Rattle.listing.proofs.Writing.{Partly, partly_first, partly_more, partly_all}
 use Rattle.listing.specs.Paths.{path_from, path_of}
 use Rattle.listing.specs.Text.{space, range, ranges}
+use Rattle.soundness.proofs.CheckedNumbers.{numbers_sound}
 use Rattle.listing.proofs.lines.put_path.Goals as goal
 use Rattle.listing.proofs.lines.put_path.Goals.{At-loop-value, In-loop-value, After-from}
 
 -- after the last field
 ended : (c : At-loop-value) → fields ≤ c.loop-value.value-index →
-    Partly c.args.text.now (ranges (path_of c.args.diagram.now c.args.values)) c.loop-value.text []
+    Partly c.args.text.now (ranges (path_of c.args.diagram.numbers.now c.args.values)) c.loop-value.text []
 ended c l =
     let long : length c.args.values ≡ fields = omega arith in
-    rw (← (ranges_end c.args.diagram.now c.args.values c.loop-value.place c.loop-value.value-index (omega (arith, long)))) c.loop-value.invariant.1
+    rw (← (ranges_end c.args.diagram.numbers.now c.args.values c.loop-value.place c.loop-value.value-index (omega (arith, long)))) c.loop-value.invariant.1
 
 -- the edge that the field's value asks for
-asked : (c : In-loop-value) → EdgeAsked c.args.diagram.now c.loop-value.place (value c.args.values c.loop-value.value-index)
+asked : (c : In-loop-value) → EdgeAsked c.args.diagram.numbers.now c.loop-value.place (value c.args.values c.loop-value.value-index)
 asked c =
     let f = c.loop-value.value-index in
-    edge_asked c.args.diagram.now c.requires.sound c.loop-value.place f c.loop-value.invariant.0.entry c.loop-value-test.true _ (c.requires.within f c.loop-value-test.true)
+    edge_asked c.args.diagram.numbers.now (numbers_sound c.args.diagram) c.loop-value.place f c.loop-value.invariant.0.entry c.loop-value-test.true _ (c.requires.within f c.loop-value-test.true)
 
 -- the bytes left before a field: its range, a space, and the ranges of the fields after it
-next : (c : After-from) → let d = c.args.diagram.now in let p = c.loop-value.place in let q = c.args.values in let j = c.edge_of-edge.result in
+next : (c : After-from) → let d = c.args.diagram.numbers.now in let p = c.loop-value.place in let q = c.args.values in let j = c.edge_of-edge.result in
     ranges (path_from d p (drop c.loop-value.value-index q)) ≡ range c.first_of-low.result c.from.result ++ space ∷ ranges (path_from d (child_at d p j) (drop (c.loop-value.value-index + 1) q))
 next c =
     let long : length c.args.values ≡ fields = omega arith in
-    ranges_next c.args.diagram.now c.args.values c.loop-value.place c.loop-value.value-index _ c.edge_of-edge.result c.first_of-low.result c.from.result (omega (arith, long, c.loop-value-test.true)) refl c.edge_of-edge.ensures.0 c.first_of-low.ensures.0 c.from.ensures
+    ranges_next c.args.diagram.numbers.now c.args.values c.loop-value.place c.loop-value.value-index _ c.edge_of-edge.result c.first_of-low.result c.from.result (omega (arith, long, c.loop-value-test.true)) refl c.edge_of-edge.ensures.0 c.first_of-low.ensures.0 c.from.ensures
 
 pub edge_of-edge-requires : goal.edge_of-edge-requires
 edge_of-edge-requires c =
@@ -41,9 +42,9 @@ first_of-low-requires c =
     let a = asked (goal.at.first_of-low-requires c).In-loop-value in
     (a.0.0, c.edge_of-edge.ensures.1, a.0.1)
 
-pub bounds-diagram-place : goal.bounds-diagram-place
-bounds-diagram-place c =
-    let a = asked (goal.at.bounds-diagram-place c).In-loop-value in
+pub bounds-numbers-place : goal.bounds-numbers-place
+bounds-numbers-place c =
+    let a = asked (goal.at.bounds-numbers-place c).In-loop-value in
     omega (arith, a.0.1, c.edge_of-edge.ensures.1)
 
 pub put_range-requires : goal.put_range-requires
@@ -57,20 +58,20 @@ put-requires c =
     let ranged = partly_more c.loop-value.invariant.1 n c.put_range.ensures in
     partly_first ranged (space ∷ []) _ refl c.requires.room_for
 
-pub bounds-diagram-place-in-loop-value : goal.bounds-diagram-place-in-loop-value
-bounds-diagram-place-in-loop-value c =
-    let a = asked (goal.at.bounds-diagram-place-in-loop-value c).In-loop-value in
+pub bounds-numbers-place-in-loop-value : goal.bounds-numbers-place-in-loop-value
+bounds-numbers-place-in-loop-value c =
+    let a = asked (goal.at.bounds-numbers-place-in-loop-value c).In-loop-value in
     omega (arith, a.0.1, c.edge_of-edge.ensures.1)
 
 pub loop-value-preserved : goal.loop-value-preserved
 loop-value-preserved c =
-    let d = c.args.diagram.now in
+    let d = c.args.diagram.numbers.now in
     let q = c.args.values in
     let p = c.loop-value.place in
     let long : length c.args.values ≡ fields = omega arith in
     let n = next (goal.at.loop-value-preserved c).After-from in
     let ranged = partly_more c.loop-value.invariant.1 n c.put_range.ensures in (
-      down_more d c.requires.sound q c.requires.within p c.loop-value.value-index c.loop-value.invariant.0 c.loop-value-test.true (omega (arith, long, c.loop-value-test.true)) _ _ refl
+      down_more d (numbers_sound c.args.diagram) q c.requires.within p c.loop-value.value-index c.loop-value.invariant.0 c.loop-value-test.true (omega (arith, long, c.loop-value-test.true)) _ _ refl
           (c.from-place-in-loop-value.ensures ∙ ap (child_at d p) c.edge_of-edge.ensures.0),
       partly_more ranged (ap (λ p'. space ∷ ranges (path_from d p' (drop (c.loop-value.value-index + 1) q))) (sym c.from-place-in-loop-value.ensures)) c.put.ensures,
     )
@@ -79,6 +80,6 @@ pub returns : goal.returns
 returns c =
     let long : length c.args.values ≡ fields = omega arith in
     record {
-      landed = landed c.args.diagram.now c.requires.sound c.args.values c.requires.within c.loop-value.place c.loop-value.value-index c.loop-value.invariant.0 c.loop-value-test.false long;
+      landed = landed c.args.diagram.numbers.now (numbers_sound c.args.diagram) c.args.values c.requires.within c.loop-value.place c.loop-value.value-index c.loop-value.invariant.0 c.loop-value-test.false long;
       puts = partly_all (ended (goal.at.returns c).At-loop-value c.loop-value-test.false) refl;
     }

@@ -7,4 +7,4 @@ use Rattle.listing.specs.Text.{ranges}
 use Rattle.listing.proofs.lines.put_path.Given as goal
 
 abbrev pub invariant-loop-value : goal.invariant-loop-value
-invariant-loop-value l = Down l.diagram l.value-items l.place l.value-index × Partly l.initial.text (ranges (path_of l.diagram l.value-items)) l.text (ranges (path_from l.diagram l.place (drop l.value-index l.value-items)))
+invariant-loop-value l = Down l.diagram.numbers.now l.value-items l.place l.value-index × Partly l.initial.text (ranges (path_of l.diagram.numbers.now l.value-items)) l.text (ranges (path_from l.diagram.numbers.now l.place (drop l.value-index l.value-items)))

@@ -8,6 +8,7 @@ use Rattle.listing.proofs.RequestsLeft.{fewer_left}
 use Rattle.listing.specs.Text.{most_line}
 use Rattle.listing.specs.Paths.{After, next_of, Later}
 use Rattle.listing.specs.Listing.{Paged, Onward}
+use Rattle.soundness.proofs.CheckedNumbers.{numbers_sound}
 use Rattle.listing.proofs.pages.fill.Goals as goal
 use Rattle.listing.proofs.pages.fill.Goals.{After-next}
 
@@ -20,13 +21,13 @@ module _ (c : After-next) where
   ends = omega (arith, long, c.line.ensures.upper_bound, c.loop-following.invariant.room, puts_long c.line.ensures.puts)
 
   -- the page may end here, with what is next
-  module _ (n : After) (v : n ≡ next_of c.args.diagram.now c.loop-following.request) where
+  module _ (n : After) (v : n ≡ next_of c.args.diagram.numbers.now c.loop-following.request) where
     paged : (n.more ≡ true → length c.line.new.text.bytes.now < c.line.new.text.end + most_line) →
-        Paged c.args.diagram.now c.args.values c.args.text.now.bytes.now c.line.new.text.bytes.now c.args.text.now.end c.line.new.text.end n
+        Paged c.args.diagram.numbers.now c.args.values c.args.text.now.bytes.now c.line.new.text.bytes.now c.args.text.now.end c.line.new.text.end n
     paged stops = filled c.loop-following.invariant c.line.ensures.puts v stops
 
-    onward : (n.more ≡ true → Later c.args.diagram.now c.loop-following.request n.values) →
-        Onward c.args.diagram.now c.args.values n × (c.line.new.text.end ≤ length c.args.text.now.bytes.now)
+    onward : (n.more ≡ true → Later c.args.diagram.numbers.now c.loop-following.request n.values) →
+        Onward c.args.diagram.numbers.now c.args.values n × (c.line.new.text.end ≤ length c.args.text.now.bytes.now)
     onward l = (filled_onward c.loop-following.invariant c.line.ensures.puts v l, ends)
 
 pub loop-following-init : goal.loop-following-init
@@ -58,7 +59,7 @@ returns-then-text-lt-LINE c =
     }
 
 pub loop-following-smaller : goal.loop-following-smaller
-loop-following-smaller c = fewer_left c.requires.sound c.loop-following.invariant.request c.in-Some.ensures.later
+loop-following-smaller c = fewer_left (numbers_sound c.args.diagram) c.loop-following.invariant.request c.in-Some.ensures.later
 
 pub loop-following-preserved : goal.loop-following-preserved
 loop-following-preserved c =

@@ -4,7 +4,7 @@ use Rattle.listing.proofs.RequestsLeft.{requests_left}
 use Rattle.listing.proofs.pages.fill.Given as goal
 
 abbrev pub invariant-loop-following : goal.invariant-loop-following
-invariant-loop-following l = Filling l.diagram l.initial.request l.initial.text l.text l.request
+invariant-loop-following l = Filling l.diagram.numbers.now l.initial.request l.initial.text l.text l.request
 
 abbrev pub decreases-loop-following : goal.decreases-loop-following
 decreases-loop-following l = requests_left l.request
