@@ -71,6 +71,7 @@ fn gather(table: Table, applying: Set, list: &mut [u16]) -> usize
     let count = count_at(table.bytes);
     let mut stored = 0;
     let mut from = 0;
+    // An iterator over a set, with its laws, would be longer than this loop, its only user.
     while let Some(i) = next_below(applying, from, count) {
         match kind_at(table.bytes, i) {
             Kind::FIRST_APPLICABLE..=Kind::DENY_OVERRIDES => {}

@@ -12,6 +12,7 @@ use crate::edges::Edges;
 use crate::finding::Index;
 use crate::writing::{NODE, TERMINAL, write_node, write_terminal};
 
+// The two ways of entering stay apart: each lends the rest of the diagram to its own writer, as the requirements ask, and copies nothing.
 impl Index {
     // Enters a terminal: a new one is written into the part of the diagram that starts after the last entry. Where it stands, if there is room.
     pub fn enter_terminal(

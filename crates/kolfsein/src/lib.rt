@@ -1,4 +1,5 @@
-// The library's calls for C. `include/kolfsein.h` declares them: a slice is a pointer and then its length.
+// The library's calls for C. `include/kolfsein.h` declares them: a slice is a pointer and then its length. C has no generics and no Result,
+// so each call has a name of its own, takes its values one by one, and answers by numbers.
 #![tactic(auto)]
 
 ghost use Rattle.std.specs.Prelude.{◌≡◌, [], ◌∷◌, length};

@@ -22,6 +22,7 @@ pub fn fill(diagram: SoundDiagram, values: [u16; FIELDS], text: &mut Text) -> Op
     ensures same_reference { text.new.bytes.ghost_name ≡ text.old.bytes.ghost_name }
 {
     let mut request = values;
+    // No index is counted: each request comes from the one before.
     loop {
         line(diagram, request, text);
         let Some(following) = next(diagram, request) else {

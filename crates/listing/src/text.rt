@@ -58,7 +58,8 @@ impl<'a> Text<'a> {
         }
     }
 
-    // Writes a number's decimal digits: those of a tenth of it, if it has more than one, then the last.
+    // Writes a number's decimal digits: those of a tenth of it, if it has more than one, then the last. Not
+    // `write!`, which hands back a Result where nothing can fail.
     pub(crate) fn put_decimal(&mut self, number: usize)
         requires { HasRoom self.old (decimal number) }
         ensures { Puts self.old self.new (decimal number) }

@@ -17,7 +17,8 @@ use diagram::HEADER;
 use diagram::layout::edges_of;
 use soundness::checked::SoundDiagram;
 
-// The edge of a value at the sound node at a place: the first that does not end below it. Last values rise.
+// The edge of a value at the sound node at a place: the first that does not end below it. Last values rise. It asks for a sound
+// node and no sound diagram, so that it asks no more than it needs.
 pub fn edge_of(diagram: &[u16], place: usize, value: u16) -> usize
     requires place_lt_most_places { (place < most_places) × (place + 2 + 2 * edges_at diagram.now place ≤ length diagram.now) }
     requires sound_node { SoundNode fields diagram.now place }

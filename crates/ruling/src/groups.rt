@@ -10,7 +10,7 @@ ghost use Rattle.ruling.specs.Meaning.{effect, children, decision};
 ghost use Rattle.ruling.specs.Ruling.{groups_together};
 ghost use Rattle.ruling.specs.Walk.{MembersPass, AppliesToEach, Node, ChildRun, Gathered};
 
-use answer::OTHERS;
+use answer::{JointRequest, OTHERS};
 use combining::{Decision, Kind, Running, Ways};
 use encoding::layout::{card_at, count_at, kind_at, short_span_at};
 use table::Table;
@@ -118,6 +118,7 @@ fn rule_run(
     let mut running = Running::start(kind);
     let mut count = before;
     let mut i = first;
+    // Spans differ, so that no range of numbers gives the children; an iterator over them would be longer than this loop.
     while i < end {
         let next = i + short_span_at(table.bytes, i);
         let left = members_left(table.bytes, members, others, i);
@@ -135,16 +136,12 @@ fn rule_run(
 }
 
 // Rules by a table that was read: the cards are stored as far as the list reaches, and counted.
-pub(crate) fn rule_read(
-    table: Table,
-    subjects: u64,
-    others: &[u16; OTHERS],
-    cards: &mut [u16],
-) -> Ruled
-    ensures decision_value { (result.decision ≡ (groups_together table.entry.bytes.now subjects others.now).decision) × (result.count ≡ length (groups_together table.entry.bytes.now subjects others.now).cards) }
-    ensures cards_after { cards.new ≡ sets cards.old 0 (groups_together table.entry.bytes.now subjects others.now).cards }
+pub(crate) fn rule_read(table: Table, request: JointRequest, cards: &mut [u16]) -> Ruled
+    ensures decision_value { (result.decision ≡ (groups_together table.entry.bytes.now request.subjects request.others).decision) × (result.count ≡ length (groups_together table.entry.bytes.now request.subjects request.others).cards) }
+    ensures cards_after { cards.new ≡ sets cards.old 0 (groups_together table.entry.bytes.now request.subjects request.others).cards }
 {
-    let left = members_left(table.bytes, subjects, others, 0);
+    let others = &request.others;
+    let left = members_left(table.bytes, request.subjects, others, 0);
     if left == 0 {
         return Ruled {
             decision: Decision::NOT_APPLICABLE,

@@ -1,39 +1,36 @@
 // Ruling by groups: refusals 1 to 8, 13, 9 and 10 in order, or the decision and the cards.
-ghost use Rattle.std.specs.Prelude.{◌≡◌, ◌-◌, length};
+ghost use Rattle.std.specs.Prelude.{◌≡◌, length};
 ghost use Rattle.answer.specs.Answers.{zeros};
-ghost use Rattle.answer.specs.Fields.{fields};
 ghost use Rattle.answer.specs.Rulings.{ruled_or};
 ghost use Rattle.targets.specs.Subjects.{size};
 ghost use Rattle.ruling.specs.Ruling.{groups_together, asked_refusals, ruling_refusals, ruled_answer, for_subjects, listed_after, ruling, ruled_list};
 
 use crate::groups::{Ruled, rule_read};
-use answer::{Answer, JointRequest, OTHERS, Refusal, Refused, clear, field_fault};
+use answer::{Answer, JointRequest, Refusal, Refused, clear, field_fault};
 use encoding::layout::maxima_at;
 use sets::ones_at;
 use table::Table;
 use targets::subjects_fault;
 
-// Rules on several subjects together by an accepted table, where the other fields have these values, with a list that was cleared: refusals 13,
-// 9 and 10 in order, or the decision and the number of cards.
+// Rules on a request of several subjects together by an accepted table, with a list that was cleared: refusals 13, 9 and 10 in order, or the
+// decision and the number of cards.
 pub fn rule_accepted(
     table: Table,
-    subjects: u64,
-    others: &[u16; OTHERS],
+    request: JointRequest,
     cards: &mut [u16],
 ) -> Result<Ruled, Refused>
-    requires others_length { length others.now ≡ fields - 1 }
-    requires cards_value { cards.old ≡ zeros (length cards.old) }
-    ensures value { ruled_answer result ≡ ruled_or (asked_refusals table.entry.bytes.now subjects others.now (length cards.old)) (groups_together table.entry.bytes.now subjects others.now) 0 }
-    ensures cards_after { cards.new ≡ listed_after (asked_refusals table.entry.bytes.now subjects others.now (length cards.old)) table.entry.bytes.now subjects others.now (length cards.old) }
+    requires { cards.old ≡ zeros (length cards.old) }
+    ensures value { ruled_answer result ≡ ruled_or (asked_refusals table.entry.bytes.now request.subjects request.others (length cards.old)) (groups_together table.entry.bytes.now request.subjects request.others) 0 }
+    ensures cards_after { cards.new ≡ listed_after (asked_refusals table.entry.bytes.now request.subjects request.others (length cards.old)) table.entry.bytes.now request.subjects request.others (length cards.old) }
 {
     let maxima = maxima_at(table.bytes);
-    if subjects_fault(subjects, maxima[0]) {
+    if subjects_fault(request.subjects, maxima[0]) {
         return Err(Refusal::Subjects.at(0));
     }
-    if let Some(field) = field_fault(&maxima, others, 1) {
+    if let Some(field) = field_fault(&maxima, &request.others, 1) {
         return Err(Refusal::Value.at(field));
     }
-    let root = rule_read(table, subjects, others, cards);
+    let root = rule_read(table, request, cards);
     if cards.len() < root.count {
         clear(cards);
         return Err(Refusal::ListTooShort.at(0));
@@ -59,7 +56,7 @@ fn rule_checked(bytes: &[u8], request: JointRequest, cards: &mut [u16]) -> Resul
     ensures cards_after { cards.new ≡ ruled_list bytes.now request.subjects request.others (length cards.old) }
 {
     let table = Table::accept(bytes)?;
-    rule_accepted(table, request.subjects, &request.others, cards)
+    rule_accepted(table, request, cards)
 }
 
 // Rules on a request of several subjects together: the decision, how many subjects they are, and in the list the cards of all

@@ -49,6 +49,7 @@ fn read_full(input: &mut impl Read, buffer: &mut [u8]) -> io::Result<usize>
 fn print_rulings(rt: &impl Print, table: &[u8]) -> io::Result<()> {
     let mut diagram = [0u16; MOST_PLACES];
     let built = build(table, &mut diagram);
+    // A number, since C reads the answer.
     if built.number != 0 {
         return print_refusal(rt, built);
     }

@@ -121,6 +121,7 @@ pub fn is_sound(diagram: &[u16]) -> bool
     if !header_sound(diagram) {
         return false;
     }
+    // One function over the length of the marks would be no shorter than these two lines for each.
     if usize::from(diagram[0]) <= SMALL {
         let mut marks = [0u8; SMALL];
         entries_sound(diagram, &mut marks)

@@ -47,6 +47,6 @@ pub fn rule_standard(table: &[u8], request: JointRequest, cards: &mut [u16]) -> 
         Ok(accepted) => accepted,
         Err(refused) => return Answer::from(refused),
     };
-    let outcome = rule_accepted(accepted, request.subjects, &request.others, cards);
+    let outcome = rule_accepted(accepted, request, cards);
     for_subjects(outcome, request.subjects)
 }

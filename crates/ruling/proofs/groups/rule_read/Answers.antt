@@ -57,10 +57,10 @@ pub returns-then-left-eq0 : goal.returns-then-left-eq0
 returns-then-left-eq0 c =
     let t = c.args.table.bytes.now in
     let w = c.args.table.accepted in
-    let which = applies_to_some t c.args.subjects c.args.others.now in
+    let which = applies_to_some t c.args.request.subjects c.args.request.others in
     let list = c.args.cards.now in
     let out : (j : ℕ) → 0 ≤ j → j < count t → which j ≡ false =
-    λ j lo hi. none_left t c.args.others.now c.args.subjects c.members_left-left.result 0 c.members_left-left.ensures c.if-left-eq0.true j lo (omega (arith, w.root)) in
+    λ j lo hi. none_left t c.args.request.others c.args.request.subjects c.members_left-left.result 0 c.members_left-left.ensures c.if-left-eq0.true j lo (omega (arith, w.root)) in
     let g = all_gathered which t (count t) 0 list list refl (gathered_not which t w 0 (count t) 0 list out) in
     record {
       decision_value = (ruled_not which t 0 (out 0 (omega arith) w.some), g.0);
@@ -75,26 +75,26 @@ kind_at-kind-requires c = held c.args.table.bytes.now c.args.table.accepted 0 c.
 
 -- once the count is read: the root is ruled for those that are left
 root_node : (c : After-count_at-count) →
-    Node (applies_to_some c.args.table.bytes.now c.members_left-left.result c.args.others.now) c.args.table.bytes.now 0 c.count_at-count.result 0
+    Node (applies_to_some c.args.table.bytes.now c.members_left-left.result c.args.request.others) c.args.table.bytes.now 0 c.count_at-count.result 0
 root_node c =
-    node c.args.table.bytes.now c.args.table.accepted c.args.others.now c.args.subjects c.members_left-left.result c.members_left-left.ensures
+    node c.args.table.bytes.now c.args.table.accepted c.args.request.others c.args.request.subjects c.members_left-left.result c.members_left-left.ensures
     c.count_at-count.result c.count_at-count.ensures.0 (omega arith) (omega (arith, c.if-left-eq0.false))
 
 -- what it gives and gathers for them is what the groups give the whole set
 as_whole : (c : After-count_at-count) {d n : ℕ} {after : List ℕ} →
     let t = c.args.table.bytes.now in
-    let left = applies_to_some t c.members_left-left.result c.args.others.now in
-    let all = applies_to_some t c.args.subjects c.args.others.now in
+    let left = applies_to_some t c.members_left-left.result c.args.request.others in
+    let all = applies_to_some t c.args.request.subjects c.args.request.others in
     (d ≡ decision left t 0) × Gathered left t 0 c.count_at-count.result 0 n c.args.cards.now after →
     ((d ≡ decision all t 0) × (n ≡ length (cards all t))) × (after ≡ sets c.args.cards.now 0 (cards all t))
 as_whole c =
-    whole c.args.table.bytes.now c.args.table.accepted c.args.others.now c.args.subjects c.members_left-left.result c.members_left-left.ensures
+    whole c.args.table.bytes.now c.args.table.accepted c.args.request.others c.args.request.subjects c.members_left-left.result c.members_left-left.ensures
     c.count_at-count.result c.count_at-count.ensures.0
 
 pub rule_run-requires : goal.rule_run-requires
 rule_run-requires c =
     let t = c.args.table.bytes.now in
-    let others = c.args.others.now in
+    let others = c.args.request.others in
     let left = c.members_left-left.result in
     record {
       combines = c.ways-ways.ensures;
@@ -103,7 +103,7 @@ rule_run-requires c =
         omega arith,
       );
       members_pass =
-          members_down t others left 0 (each t c.args.table.accepted others c.args.subjects left c.members_left-left.ensures c.count_at-count.result c.count_at-count.ensures.0);
+          members_down t others left 0 (each t c.args.table.accepted others c.args.request.subjects left c.members_left-left.ensures c.count_at-count.result c.count_at-count.ensures.0);
     }
 
 pub rule_match-requires : goal.rule_match-requires
@@ -114,7 +114,7 @@ returns-in-0-to-3 c =
     let p = (goal.at.returns-in-0-to-3 c).After-count_at-count in
     let r =
     as_whole p
-    (by_group (applies_to_some c.args.table.bytes.now c.members_left-left.result c.args.others.now) c.args.table.bytes.now c.args.table.accepted (root_node p) c.kind_at-kind.ensures
+    (by_group (applies_to_some c.args.table.bytes.now c.members_left-left.result c.args.request.others) c.args.table.bytes.now c.args.table.accepted (root_node p) c.kind_at-kind.ensures
     (omega arith) c.rule_run.ensures.decision_value c.rule_run.ensures.gathered) in
     record { decision_value = r.0; cards_after = r.1 }
 
@@ -123,6 +123,6 @@ returns-in_default c =
     let p = (goal.at.returns-in_default c).After-count_at-count in
     let r =
     as_whole p
-    (by_rule (applies_to_some c.args.table.bytes.now c.members_left-left.result c.args.others.now) c.args.table.bytes.now c.args.table.accepted (root_node p) c.kind_at-kind.ensures
+    (by_rule (applies_to_some c.args.table.bytes.now c.members_left-left.result c.args.request.others) c.args.table.bytes.now c.args.table.accepted (root_node p) c.kind_at-kind.ensures
     (omega arith) c.rule_match.ensures.decision_value.0 c.rule_match.ensures.decision_value.1 c.rule_match.ensures.cards_after) in
     record { decision_value = r.0; cards_after = r.1 }

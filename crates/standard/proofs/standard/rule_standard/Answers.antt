@@ -17,8 +17,8 @@ returns-in-Err c =
     f.1.0 (c.from.ensures ∙ f.1.1) c.clear.ensures in
     record { value = r.0; cards_after = r.1 }
 
-pub rule_accepted-outcome-requires-clause-cards_value : goal.rule_accepted-outcome-requires-clause-cards_value
-rule_accepted-outcome-requires-clause-cards_value c = c.clear.ensures ∙ ap zeros (sym c.clear.auto.list)
+pub rule_accepted-outcome-requires : goal.rule_accepted-outcome-requires
+rule_accepted-outcome-requires c = c.clear.ensures ∙ ap zeros (sym c.clear.auto.list)
 
 pub returns : goal.returns
 returns c =
