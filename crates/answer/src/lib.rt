@@ -17,7 +17,7 @@ pub const FIELDS: usize = 3;
 // How many fields there are beside the subject.
 pub const OTHERS: usize = FIELDS - 1;
 
-// A refusal, or a success with its decision, count and number of subjects.
+// A refusal, or a success with its decision, count and number of subjects: numbers and no enum, since C reads it.
 #[repr(C)]
 #[derive(Clone, Copy)]
 pub struct Answer {

@@ -63,13 +63,17 @@ const D: u8 = Decision::DENY;
 const I: u8 = Decision::INDETERMINATE;
 
 // A table of the ways of combining, one row after another, each by child decision. Which row is which, `row_of` says.
-pub type Ways = [[u8; 4]; 27];
+#[derive(Clone, Copy)]
+pub struct Ways {
+    rows: [[u8; 4]; 27],
+    pub ghost combines: { Combines rows },
+}
 
 // The four ways. Under only one applicable the first child that counts gives the decision, any further one is too many, and one that does not
 // count changes nothing. Deny overrides has no row for a running indeterminate, which it never has.
 // The rows for a child that does not count, 4 to 7 and 19 to 22, are never read: both callers of `take` take in children that count alone. A child
 // that does not apply, and so does not count, they step over, which is proved to change nothing (`over_skip` of ruling/proofs/Decisions).
-const COMBINING: Ways = [
+const COMBINING: [[u8; 4]; 27] = [
     // first applicable
     [N, P, D, I], // 0: running N
     [P, P, P, P], // 1: running P
@@ -151,10 +155,8 @@ pub struct Running {
 
 impl Running {
     // The table of the four ways, laid out once for all groups of a ruling.
-    pub fn ways() -> Ways
-        ensures { Combines result }
-    {
-        COMBINING
+    pub fn ways() -> Ways {
+        Ways { rows: COMBINING }
     }
 
     // Before the first child.
@@ -171,13 +173,13 @@ impl Running {
 
     // With one child more, which gives this decision, and counts or not: by the table of the ways.
     pub fn take(self, ways: &Ways, decision: u8, counts: bool) -> Self
-        requires { Combines ways.now × Takes self (as_child decision counts) }
+        requires { Takes self (as_child decision counts) }
         ensures { Taken self (as_child decision counts) result }
     {
         let row = row_of(self.kind, self.decision, self.counted, counts);
         Self {
             kind: self.kind,
-            decision: ways[row][usize::from(decision)],
+            decision: ways.rows[row][usize::from(decision)],
             counted: self.counted | counts,
         }
     }

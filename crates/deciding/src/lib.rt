@@ -3,7 +3,6 @@
 
 ghost use Rattle.std.specs.Prelude.{◌≡◌, true, ◌<◌, ◌≤◌, length};
 ghost use Rattle.std.proofs.lemmas.List.Edits.{sets};
-ghost use Rattle.combining.specs.Table.{Combines};
 ghost use Rattle.sets.specs.Sets.{most, has, NextOrNone};
 ghost use Rattle.encoding.specs.Layout.{count};
 ghost use Rattle.ruling.specs.Meaning.{decision, cards, meaning};
@@ -23,10 +22,9 @@ fn next_below(applying: Set, i: usize, end: usize) -> Option<usize>
     applying.next(i).filter(|node| *node < end)
 }
 
-// The decision of node i, which is in the set.
+// The decision of node i, which is in the set. That a set is closed is a fact about it and its table, so neither has it in its type.
 #[tactic(auto, using(ruling::proofs::Steps::held))]
 fn decide(table: Table, ways: &Ways, applying: Set, i: usize) -> u8
-    requires combines { Combines ways.now }
     requires closed { Closed table.bytes.now (has applying) }
     requires i_bound { (i < count table.bytes.now) × (has applying i ≡ true) }
     ensures { result ≡ decision (has applying) table.entry.bytes.now i }

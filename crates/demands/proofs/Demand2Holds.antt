@@ -1,5 +1,5 @@
 -- Demand 2 holds, and its cases.
-use mathlib.Core.Path.{◌≡◌, refl}
+use mathlib.Core.Path.{refl}
 use mathlib.Core.List.{List}
 use Prim.Native.Nat.{ℕ}
 use Rattle.encoding.specs.Layout.{maximum}

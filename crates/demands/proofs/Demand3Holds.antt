@@ -13,7 +13,7 @@ use Rattle.answer.specs.Rulings.{answer_of}
 use Rattle.answer.proofs.SameRuling.{same_ruling}
 use Rattle.combining.specs.Ways.{not_applicable, Child}
 use Rattle.combining.proofs.Fold.{pick, way_none}
-use Rattle.encoding.specs.Layout.{maximum, maxima, count, kind}
+use Rattle.encoding.specs.Layout.{maximum, maxima, kind}
 use Rattle.table.specs.Reading.{Accepted}
 use Rattle.table.proofs.AcceptedIsWellFormed.{well_formed}
 use Rattle.table.proofs.Computing.{table_computes}
@@ -21,10 +21,10 @@ use Rattle.ruling.specs.Forest.{children_from}
 use Rattle.targets.specs.Targets.{target_holds, applies}
 use Rattle.targets.specs.Subjects.{applies_to_some, size, AskedWithin}
 use Rattle.ruling.specs.Meaning.{gives, child_of, decision, cards_from, cards, meaning}
-use Rattle.ruling.specs.Ruling.{groups, groups_together}
+use Rattle.ruling.specs.Ruling.{groups}
 use Rattle.targets.proofs.Throughout.{pass_root}
 use Rattle.targets.proofs.AppliesByParents.{applies_by_parents}
-use Rattle.ruling.proofs.Cards.{matches_group, cards_none, cards_more}
+use Rattle.ruling.proofs.Cards.{matches_group}
 use Rattle.ruling.proofs.CardsOfMatchingRules.{each_listed, number_of_cards}
 use Rattle.ruling.proofs.DecisionAsWorded.{decision_as_worded_lem}
 use Rattle.ruling.proofs.DecisionByChildren.{decision_by_children}

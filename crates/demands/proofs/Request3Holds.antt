@@ -1,6 +1,5 @@
 -- Request 3 is met, and its cases.
 use mathlib.Core.Path.{refl}
-use Prim.Native.Nat.{ℕ}
 use borrow.Author.Tests.{leb-false}
 use Rattle.answer.specs.Answers.{refused, counted, zeros, padded}
 use Rattle.answer.specs.Rulings.{answer_of}

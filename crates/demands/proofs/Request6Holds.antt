@@ -1,14 +1,11 @@
 -- Request 6 is met, and its cases.
 use mathlib.Core.Path.{◌≡◌, refl, sym, ap, ◌∙◌}
-use mathlib.Core.Bool.{false, cond}
-use mathlib.Core.List.{List}
-use Prim.Native.Nat.{ℕ}
+use mathlib.Core.Bool.{cond}
 use native.Mathlib.Omega.{arith}
 use lib.ListN.{length}
 use Rattle.answer.specs.Answers.{refused, counted, zeros, padded}
 use Rattle.answer.proofs.Settling.{answers}
 use Rattle.table.specs.Reading.{Accepted}
-use Rattle.table.specs.WellFormed.{WellFormed}
 use Rattle.table.proofs.Accepting.{found_accepted}
 use Rattle.table.proofs.AcceptedIsWellFormed.{well_formed}
 use Rattle.ruling.proofs.Computing.{ruling_computes}

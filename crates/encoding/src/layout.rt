@@ -50,6 +50,9 @@ pub fn word_at(table: &[u8], p: usize) -> u16
     u16::from_be_bytes([table[p], table[p + 1]])
 }
 
+// The readers ask that the header is there, or the record of a node. A type for either would be proved where it is made, as the clause is where
+// a reader is called, and most callers read one number.
+
 // How many bytes the header of a table has.
 pub fn header_size(table: &[u8]) -> usize
     ensures { result ≡ header table.now }

@@ -2,7 +2,6 @@
 ghost use Rattle.std.specs.Prelude.{◌≡◌, ◌+◌, ◌<◌, length, set};
 ghost use Rattle.std.proofs.lemmas.List.Edits.{sets};
 ghost use Rattle.combining.specs.Ways.{way};
-ghost use Rattle.combining.specs.Table.{Combines};
 ghost use Rattle.encoding.specs.Layout.{card, NodeHeld};
 ghost use Rattle.ruling.specs.Forest.{run};
 ghost use Rattle.targets.specs.Subjects.{applies_to_some};
@@ -70,7 +69,6 @@ pub(crate) fn rule_node(
     cards: &mut [u16],
     count: usize,
 ) -> Ruled
-    requires combines { Combines ways.now }
     requires node { Node (applies_to_some table.bytes.now members others.now) table.bytes.now i end count }
     requires applies_to_each { AppliesToEach table.bytes.now members others.now i }
     ensures decision_value { result.decision ≡ decision (applies_to_some table.entry.bytes.now members others.now) table.entry.bytes.now i }
@@ -109,7 +107,6 @@ fn rule_run(
     cards: &mut [u16],
     before: usize,
 ) -> Ruled
-    requires combines { Combines ways.now }
     requires child_run { ChildRun table.bytes.now first end before × (kind < 4) }
     requires members_pass { MembersPass table.bytes.now members others.now first }
     ensures decision_value { result.decision ≡ way kind (children (applies_to_some table.entry.bytes.now members others.now) table.entry.bytes.now (run table.entry.bytes.now first end)) }

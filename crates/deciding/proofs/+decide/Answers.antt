@@ -16,10 +16,8 @@ child_in : {t : ℕ} (c : In-Some t) → BeforeChild (has c.args.applying) c.arg
 child_in c = before_child c.args.table.accepted c.requires.closed c.loop-child.invariant.1 c.in-Some.ensures
 
 pub take-running-requires : goal.take-running-requires
-take-running-requires t c = (
-  c.requires.combines,
-  takes (has c.args.applying) c.args.table.bytes.now c.in-Some.child c.loop-child.invariant.1.reachable c.decide-decision.ensures,
-)
+take-running-requires t c =
+    takes (has c.args.applying) c.args.table.bytes.now c.in-Some.child c.loop-child.invariant.1.reachable c.decide-decision.ensures
 
 pub loop-child-preserved : goal.loop-child-preserved
 loop-child-preserved t c =

@@ -36,5 +36,5 @@ pub returns : goal.returns
 returns c =
     let self = c.args.self in
     let child = as_child c.args.decision c.args.counts in
-    stepped self child c.requires.1 _ refl
-    (ap₂ as_child (entry_is_step c.args.ways.now self child c.row_of-row.result c.from.result c.row_of-row.ensures.0 c.from.ensures c.requires.0 c.requires.1) search)
+    stepped self child c.requires _ refl
+    (ap₂ as_child (entry_is_step c.args.ways.now.rows self child c.row_of-row.result c.from.result c.row_of-row.ensures.0 c.from.ensures c.args.ways.now.combines c.requires) search)

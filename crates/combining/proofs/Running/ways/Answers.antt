@@ -2,5 +2,5 @@
 use Rattle.combining.proofs.Table.{combines}
 use Rattle.combining.proofs.Running.ways.Goals as goal
 
-pub returns : goal.returns
-returns c = combines _ tt
+pub invariant_of-result : goal.invariant_of-result
+invariant_of-result c = record { combines = combines _ tt }

@@ -25,11 +25,8 @@ rule_node-rule_run-requires t c =
     let n = c.requires.node in (
       omega (arith, w.spans c.args.i n.some, n.ends, c.decreases),
       (
-        c.requires.combines,
-        (
-          (children (applies_to_some c.args.table.bytes.now c.args.members c.args.others.now) c.args.table.bytes.now w c.args.i c.args.end c.args.count n, omega arith),
-          members_down c.args.table.bytes.now c.args.others.now c.args.members c.args.i c.requires.applies_to_each,
-        ),
+        (children (applies_to_some c.args.table.bytes.now c.args.members c.args.others.now) c.args.table.bytes.now w c.args.i c.args.end c.args.count n, omega arith),
+        members_down c.args.table.bytes.now c.args.others.now c.args.members c.args.i c.requires.applies_to_each,
       ),
     )
 
@@ -128,21 +125,16 @@ rule_run-rule_node-child-requires t c =
     let b = c.loop-i.invariant.before in (
       omega (arith, before_within w b c.loop-i-test.true, b.later, spanned m, c.decreases),
       (
-        c.requires.combines,
-        (
-          first (applies_to_some c.args.table.bytes.now c.members_left-left.result c.args.others.now) c.args.table.bytes.now w c.loop-i.i c.args.end _ _ c.loop-i-test.true (omega (arith, spanned m))
-              (left_some m (omega arith)) b.ahead,
-          left_applying m,
-        ),
+        first (applies_to_some c.args.table.bytes.now c.members_left-left.result c.args.others.now) c.args.table.bytes.now w c.loop-i.i c.args.end _ _ c.loop-i-test.true (omega (arith, spanned m))
+            (left_some m (omega arith)) b.ahead,
+        left_applying m,
       ),
     )
 
 pub rule_run-take-running-requires : goal.rule_run-take-running-requires
-rule_run-take-running-requires t c = (
-  c.requires.combines,
-  takes (applies_to_some c.args.table.bytes.now c.members_left-left.result c.args.others.now) c.args.table.bytes.now c.loop-i.i c.loop-i.invariant.before.reachable
-      c.rule_node-child.ensures.decision_value,
-)
+rule_run-take-running-requires t c =
+    takes (applies_to_some c.args.table.bytes.now c.members_left-left.result c.args.others.now) c.args.table.bytes.now c.loop-i.i c.loop-i.invariant.before.reachable
+    c.rule_node-child.ensures.decision_value
 
 pub rule_run-loop-i-smaller-then-left-ne0 : goal.rule_run-loop-i-smaller-then-left-ne0
 rule_run-loop-i-smaller-then-left-ne0 t c =

@@ -97,7 +97,6 @@ rule_run-requires c =
     let others = c.args.request.others in
     let left = c.members_left-left.result in
     record {
-      combines = c.ways-ways.ensures;
       child_run = (
         children (applies_to_some t left others) t c.args.table.accepted 0 c.count_at-count.result 0 (root_node (goal.at.rule_run-requires c).After-count_at-count),
         omega arith,
