@@ -70,7 +70,7 @@ fn put_path(diagram: SoundDiagram, values: [u16; FIELDS], text: &mut Text) -> us
     place
 }
 
-// The cards of the terminal at a place.
+// The cards of the terminal at a place, numbers of 16 bits.
 fn cards_of(diagram: &[u16], place: usize) -> &[u16]
     requires { (place < most_places) × (place + 3 + count_at diagram.now place ≤ length diagram.now) }
     ensures cards { result.now ≡ take (count_at diagram.now place) (drop (place + 3) diagram.now) }
