@@ -10,6 +10,7 @@ ghost use Rattle.listing.specs.Paths.{first_at, path_of, line_of, first_line};
 
 use crate::text::Text;
 use answer::FIELDS;
+use diagram::layout::edges_of;
 use lookup::edge_of;
 use soundness::checked::SoundDiagram;
 
@@ -46,8 +47,7 @@ pub(crate) fn first_of(diagram: &[u16], place: usize, edge: usize) -> usize
     if edge == 0 {
         return 0;
     }
-    let before = edge - 1;
-    usize::from(diagram[place + 2 + 2 * before]) + 1
+    usize::from(edges_of(diagram, place)[edge - 1][0]) + 1
 }
 
 // Writes the ranges of the path that the values take, each with a space after it. Returns the place of the terminal.
@@ -62,14 +62,15 @@ fn put_path(diagram: SoundDiagram, values: [u16; FIELDS], text: &mut Text) -> us
     for value in values {
         let edge = edge_of(numbers, place, value);
         let low = first_of(numbers, place, edge);
-        text.put_range(low, usize::from(numbers[place + 2 + 2 * edge]));
+        let [last, child] = edges_of(numbers, place)[edge];
+        text.put_range(low, usize::from(last));
         text.put(b' ');
-        place = usize::from(numbers[place + 3 + 2 * edge]);
+        place = usize::from(child);
     }
     place
 }
 
-// The cards of the terminal at a place.
+// The cards of the terminal at a place, numbers of 16 bits.
 fn cards_of(diagram: &[u16], place: usize) -> &[u16]
     requires { (place < most_places) × (place + 3 + count_at diagram.now place ≤ length diagram.now) }
     ensures cards { result.now ≡ take (count_at diagram.now place) (drop (place + 3) diagram.now) }

@@ -4,7 +4,7 @@
 ghost use Rattle.std.specs.Prelude.{◌≡◌, length};
 ghost use Rattle.std.specs.Io.{ReadsAtMost};
 
-use answer::{Answer, FIELDS};
+use answer::{Answer, FIELDS, Refusal};
 use building::build;
 use diagram::MOST_PLACES;
 use encoding::layout::MOST_BYTES;
@@ -24,7 +24,7 @@ fn main(rt: HostRuntime) -> io::Result<()> {
     let mut input = [0u8; MOST_BYTES + 1];
     let n = read_full(&mut rt.stdin(), &mut input)?;
     if n > MOST_BYTES {
-        return print_refusal(&rt, Answer::refused(1, 0));
+        return print_refusal(&rt, Answer::from(Refusal::Length.at(0)));
     }
     print_rulings(&rt, &input[..n])
 }

@@ -54,14 +54,10 @@ module _ {d q : List ℕ} {p : ℕ} (l : Landed d q p) where
         cards-put : Partly t (line_of d q) x (newline ∷ [])
         cards-put = partly_more word-put refl (puts_as y (ap items e))
 
-pub put_path-place-requires : goal.put_path-place-requires
-put_path-place-requires c =
-    record {
-      within = c.requires.within;
-      room_for =
-          let e = ranges_fit c.args.diagram.numbers.now (numbers_sound c.args.diagram) c.args.values c.requires.within (omega arith) in
-          omega (arith, c.requires.line_fits, e);
-    }
+pub put_path-place-requires-clause-room_for : goal.put_path-place-requires-clause-room_for
+put_path-place-requires-clause-room_for c =
+    let e = ranges_fit c.args.diagram.numbers.now (numbers_sound c.args.diagram) c.args.values c.requires.within (omega arith) in
+    omega (arith, c.requires.line_fits, e)
 
 pub cards_of-cards-requires : goal.cards_of-cards-requires
 cards_of-cards-requires c = (c.put_path-place.ensures.landed.early, c.put_path-place.ensures.landed.within)

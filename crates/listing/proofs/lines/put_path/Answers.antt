@@ -1,9 +1,9 @@
 -- `listing::lines::put_path` meets its contract: the ranges of the fields so far are written, and lead to the place.
-use Rattle.std.proofs.Common.{◌≡◌, ◌∙◌, ◌+◌, ◌≤◌, refl, sym, ap, [], ◌∷◌, ◌++◌, length, drop, arith}
+use Rattle.std.proofs.Common.{◌≡◌, ◌∙◌, ◌+◌, ◌≤◌, refl, sym, ap, [], ◌∷◌, ◌++◌, length, drop, get_or, arith}
 use Rattle.answer.specs.Fields.{fields}
 use Rattle.answer.specs.Requests.{value}
 use Rattle.diagram.proofs.Descent.{EdgeAsked, edge_asked, down_more, landed}
-use Rattle.diagram.specs.Layout.{child_at}
+use Rattle.diagram.specs.Layout.{child_at, edge_at}
 use Rattle.listing.proofs.PathRanges.{ranges_next, ranges_end}
 use Rattle.listing.proofs.Writing.{Partly, partly_first, partly_more, partly_all}
 use Rattle.listing.specs.Paths.{path_from, path_of}
@@ -25,12 +25,16 @@ asked c =
     let f = c.loop-value.value-index in
     edge_asked c.args.diagram.numbers.now (numbers_sound c.args.diagram) c.loop-value.place f c.loop-value.invariant.0.entry c.loop-value-test.true _ (c.requires.within f c.loop-value-test.true)
 
+-- the edge that was found: its last value and its child's place
+pair : (c : After-from) → get_or c.edges_of.result.now c.edge_of-edge.result [] ≡ edge_at c.args.diagram.numbers.now c.loop-value.place c.edge_of-edge.result
+pair c = c.edges_of.ensures.each c.edge_of-edge.result c.edge_of-edge.ensures.1
+
 -- the bytes left before a field: its range, a space, and the ranges of the fields after it
 next : (c : After-from) → let d = c.args.diagram.numbers.now in let p = c.loop-value.place in let q = c.args.values in let j = c.edge_of-edge.result in
     ranges (path_from d p (drop c.loop-value.value-index q)) ≡ range c.first_of-low.result c.from.result ++ space ∷ ranges (path_from d (child_at d p j) (drop (c.loop-value.value-index + 1) q))
 next c =
     let long : length c.args.values ≡ fields = omega arith in
-    ranges_next c.args.diagram.numbers.now c.args.values c.loop-value.place c.loop-value.value-index _ c.edge_of-edge.result c.first_of-low.result c.from.result (omega (arith, long, c.loop-value-test.true)) refl c.edge_of-edge.ensures.0 c.first_of-low.ensures.0 c.from.ensures
+    ranges_next c.args.diagram.numbers.now c.args.values c.loop-value.place c.loop-value.value-index _ c.edge_of-edge.result c.first_of-low.result c.from.result (omega (arith, long, c.loop-value-test.true)) refl c.edge_of-edge.ensures.0 c.first_of-low.ensures.0 (c.from.ensures ∙ ap (λ e. get_or e 0 0) (pair c))
 
 pub edge_of-edge-requires : goal.edge_of-edge-requires
 edge_of-edge-requires c =
@@ -42,10 +46,10 @@ first_of-low-requires c =
     let a = asked (goal.at.first_of-low-requires c).In-loop-value in
     (a.0.0, c.edge_of-edge.ensures.1, a.0.1)
 
-pub bounds-numbers-place : goal.bounds-numbers-place
-bounds-numbers-place c =
-    let a = asked (goal.at.bounds-numbers-place c).In-loop-value in
-    omega (arith, a.0.1, c.edge_of-edge.ensures.1)
+pub edges_of-requires : goal.edges_of-requires
+edges_of-requires c =
+    let a = asked (goal.at.edges_of-requires c).In-loop-value in
+    record { early = a.0.0; within = a.0.1 }
 
 pub put_range-requires : goal.put_range-requires
 put_range-requires c =
@@ -58,22 +62,19 @@ put-requires c =
     let ranged = partly_more c.loop-value.invariant.1 n c.put_range.ensures in
     partly_first ranged (space ∷ []) _ refl c.requires.room_for
 
-pub bounds-numbers-place-in-loop-value : goal.bounds-numbers-place-in-loop-value
-bounds-numbers-place-in-loop-value c =
-    let a = asked (goal.at.bounds-numbers-place-in-loop-value c).In-loop-value in
-    omega (arith, a.0.1, c.edge_of-edge.ensures.1)
-
 pub loop-value-preserved : goal.loop-value-preserved
 loop-value-preserved c =
     let d = c.args.diagram.numbers.now in
     let q = c.args.values in
     let p = c.loop-value.place in
     let long : length c.args.values ≡ fields = omega arith in
-    let n = next (goal.at.loop-value-preserved c).After-from in
+    let a = (goal.at.loop-value-preserved c).After-from in
+    let n = next a in
+    let child = c.from-place-in-loop-value.ensures ∙ ap (λ e. get_or e 1 0) (pair a) in
     let ranged = partly_more c.loop-value.invariant.1 n c.put_range.ensures in (
       down_more d (numbers_sound c.args.diagram) q c.requires.within p c.loop-value.value-index c.loop-value.invariant.0 c.loop-value-test.true (omega (arith, long, c.loop-value-test.true)) _ _ refl
-          (c.from-place-in-loop-value.ensures ∙ ap (child_at d p) c.edge_of-edge.ensures.0),
-      partly_more ranged (ap (λ p'. space ∷ ranges (path_from d p' (drop (c.loop-value.value-index + 1) q))) (sym c.from-place-in-loop-value.ensures)) c.put.ensures,
+          (child ∙ ap (child_at d p) c.edge_of-edge.ensures.0),
+      partly_more ranged (ap (λ p'. space ∷ ranges (path_from d p' (drop (c.loop-value.value-index + 1) q))) (sym child)) c.put.ensures,
     )
 
 pub returns : goal.returns

@@ -1,10 +1,10 @@
 -- `paths::next_from`, which calls itself, meets its contract.
-use Rattle.std.proofs.Common.{◌≡◌, ◌+◌, ◌<◌, refl, sym, ap, get_or, ◌∙◌, ℕ, length, arith, rules}
+use Rattle.std.proofs.Common.{◌≡◌, ◌<◌, refl, sym, ap, get_or, ◌∙◌, ℕ, length, arith, rules}
 use Rattle.answer.specs.Fields.{fields}
 use Rattle.answer.specs.Requests.{value}
 use Rattle.diagram.specs.Layout.{child_at}
 use Rattle.diagram.proofs.Descent.{EdgeAsked, edge_asked, child_here}
-use Rattle.listing.proofs.EdgeByFirst.{first_within}
+use Rattle.listing.proofs.Edges.{next_first_most}
 use Rattle.listing.proofs.NextPath.{no_field_left, moves_below, moves_on, nothing_follows, zeros_after}
 use Rattle.soundness.proofs.CheckedNumbers.{numbers_sound}
 use Rattle.listing.proofs.paths.+next_from.Goals as goal
@@ -65,7 +65,7 @@ overflow_cast-next t c =
     omega (
       arith,
       c.first_of.ensures.0,
-      first_within d s c.args.place c.args.field c.requires.entry_before.0 l (c.edge_of-edge.result + 1) (omega (arith, c.if-edge-edges.true, c.edges_of-edges.ensures.count)),
+      next_first_most d s c.args.place c.args.field c.requires.entry_before.0 l c.edge_of-edge.result (omega (arith, c.if-edge-edges.true, c.edges_of-edges.ensures.count)),
       s.maxima c.args.field l,
     )
 
