@@ -1,18 +1,12 @@
 -- `attaching::faults::fit_fault` meets its contract: one refusal after another.
 use Rattle.std.proofs.Common.{sym, ◌∙◌}
 use Rattle.answer.specs.Refusals.{settled}
-use Rattle.encoding.proofs.Places.{header_held, node_held}
+use Rattle.encoding.proofs.Places.{node_held}
 use Rattle.attaching.proofs.FitFaults.{versions_same}
 use Rattle.attaching.proofs.faults.fit_fault.Goals as goal
 
 pub rule_at-requires : goal.rule_at-requires
 rule_at-requires c = node_held c.args.base.bytes.now c.args.base.accepted.records 0 c.args.base.accepted.some
-
-pub headers_differ-requires : goal.headers_differ-requires
-headers_differ-requires c = (
-  header_held c.args.base.bytes.now c.args.base.accepted.records,
-  header_held c.args.expansion.bytes.now c.args.expansion.accepted.records,
-)
 
 pub too_large-requires : goal.too_large-requires
 too_large-requires c = versions_same c.args.base.bytes.now c.args.expansion.bytes.now (sym c.headers_differ.ensures ∙ c.if-headers_differ.false)
