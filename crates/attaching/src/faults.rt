@@ -3,7 +3,7 @@ ghost use Rattle.std.specs.Prelude.{◌≡◌, not, ◌<◌, eqb};
 ghost use Rattle.answer.specs.Fields.{fields};
 ghost use Rattle.answer.specs.Numbers.{number_or_zero};
 ghost use Rattle.answer.specs.Refusals.{first_number};
-ghost use Rattle.encoding.specs.Layout.{version, maximum, HeaderHeld};
+ghost use Rattle.encoding.specs.Layout.{version, maximum};
 ghost use Rattle.attaching.specs.Attached.{headers_differ, too_large, fit_refusals};
 
 use answer::{FIELDS, Refusal};
@@ -13,19 +13,18 @@ use table::levels::has_last_level;
 use table::reading::rule_at;
 
 // Another maximum in a field.
-fn maximum_differs(base: &[u8], expansion: &[u8], field: usize) -> bool
-    requires { HeaderHeld base.now × HeaderHeld expansion.now × (field < fields) }
-    ensures { result ≡ not (eqb (maximum base.now field) (maximum expansion.now field)) }
+fn maximum_differs(base: Table, expansion: Table, field: usize) -> bool
+    requires { field < fields }
+    ensures { result ≡ not (eqb (maximum base.entry.bytes.now field) (maximum expansion.entry.bytes.now field)) }
 {
-    maximum_at(base, field) != maximum_at(expansion, field)
+    maximum_at(base.bytes, field) != maximum_at(expansion.bytes, field)
 }
 
 // Refusal 18: another version, or another maximum in some field.
-fn headers_differ(base: &[u8], expansion: &[u8]) -> bool
-    requires { HeaderHeld base.now × HeaderHeld expansion.now }
-    ensures { result ≡ headers_differ base.now expansion.now }
+fn headers_differ(base: Table, expansion: Table) -> bool
+    ensures { result ≡ headers_differ base.entry.bytes.now expansion.entry.bytes.now }
 {
-    base[VERSION] != expansion[VERSION]
+    base.bytes[VERSION] != expansion.bytes[VERSION]
         || (0..FIELDS).any(|field| maximum_differs(base, expansion, field))
 }
 
@@ -43,7 +42,7 @@ pub(crate) fn fit_fault(base: Table, expansion: Table) -> Option<Refusal>
 {
     if rule_at(base.bytes, 0) {
         Some(Refusal::BaseIsRule)
-    } else if headers_differ(base.bytes, expansion.bytes) {
+    } else if headers_differ(base, expansion) {
         Some(Refusal::HeadersDiffer)
     } else if too_large(base, expansion) {
         Some(Refusal::TooLarge)

@@ -13,10 +13,13 @@ pub count_at-requires-2 : goal.count_at-requires-2
 count_at-requires-2 c = header_held c.args.expansion.bytes.now c.args.expansion.accepted.records
 
 pub returns-then-count_at-gt-NODES : goal.returns-then-count_at-gt-NODES
-returns-then-count_at-gt-NODES c = lt-ltb _ _ c.if-count_at-gt-NODES.true ∙ too_many c.args.base.bytes.now c.args.expansion.bytes.now c.args.base.accepted c.args.expansion.accepted c.requires
+returns-then-count_at-gt-NODES c =
+    lt-ltb _ _ c.if-count_at-gt-NODES.true
+    ∙ too_many _ _ c.args.base.accepted c.args.expansion.accepted c.requires
     (omega (arith, c.count_at.ensures.0, c.count_at-2.ensures.0, c.if-count_at-gt-NODES.true))
 
 pub returns-else-count_at-gt-NODES : goal.returns-else-count_at-gt-NODES
-returns-else-count_at-gt-NODES c = c.has_last_level.ensures
-    ∙ by_levels c.args.base.bytes.now c.args.expansion.bytes.now c.args.base.accepted c.args.expansion.accepted c.requires
+returns-else-count_at-gt-NODES c =
+    c.has_last_level.ensures
+    ∙ by_levels _ _ c.args.base.accepted c.args.expansion.accepted c.requires
     (omega (arith, c.count_at.ensures.0, c.count_at-2.ensures.0, c.if-count_at-gt-NODES.false))

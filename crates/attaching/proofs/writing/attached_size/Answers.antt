@@ -8,4 +8,7 @@ pub overflow_sub-result : goal.overflow_sub-result
 overflow_sub-result c = omega (arith, c.header_size-header.ensures, header_held c.args.expansion.bytes.now c.args.expansion.accepted.records)
 
 pub returns : goal.returns
-returns c = (omega (arith, c.header_size-header.ensures, size_is c.args.base.bytes.now c.args.expansion.bytes.now), omega (arith, c.header_size-header.ensures, size_is c.args.base.bytes.now c.args.expansion.bytes.now, size_small c.args.base.bytes.now c.args.expansion.bytes.now c.args.base.accepted c.args.expansion.accepted))
+returns c =
+    let size = size_is c.args.base.bytes.now c.args.expansion.bytes.now in
+    let small = size_small c.args.base.bytes.now c.args.expansion.bytes.now c.args.base.accepted c.args.expansion.accepted in
+    (omega (arith, c.header_size-header.ensures, size), omega (arith, c.header_size-header.ensures, size, small))

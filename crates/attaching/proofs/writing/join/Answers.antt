@@ -1,5 +1,4 @@
 -- `attaching::writing::join` meets its contract: the base's bytes are copied, and then the part of the expansion after its header.
-use lib.ListN.{length}
 use Rattle.encoding.proofs.Places.{header_held}
 use Rattle.attaching.proofs.Copied.{part_fits, base_fits, copied_both}
 use Rattle.std.proofs.Common.{arith}
@@ -12,12 +11,10 @@ pub slice_bounds-store-count : goal.slice_bounds-store-count
 slice_bounds-store-count c = omega (arith, c.header_size-header.ensures, header_held c.args.expansion.bytes.now c.args.expansion.accepted.records)
 
 pub store-requires : goal.store-requires
-store-requires c = base_fits c.args.base.bytes.now c.args.expansion.bytes.now (length c.args.table.now) c.requires
+store-requires c = base_fits _ _ _ c.requires
 
 pub store-requires-2 : goal.store-requires-2
-store-requires-2 c = part_fits c.args.base.bytes.now c.args.expansion.bytes.now c.header_size-header.result c.header_size-header.ensures _
-    (omega (arith, c.requires, c.store.auto.list))
+store-requires-2 c = part_fits _ _ _ c.header_size-header.ensures _ (omega (arith, c.requires, c.store.auto.list))
 
 pub returns : goal.returns
-returns c = copied_both c.args.base.bytes.now c.args.expansion.bytes.now c.header_size-header.result c.header_size-header.ensures c.args.table.now c.store.new.list
-    c.store-2.new.list c.store.ensures c.store-2.ensures
+returns c = copied_both _ _ _ c.header_size-header.ensures _ _ _ c.store.ensures c.store-2.ensures
