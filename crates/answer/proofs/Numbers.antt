@@ -1,9 +1,16 @@
--- Laws of the numbers of refusals.
+-- The answer of a refusal, and laws of the numbers of refusals.
 use Prim.Native.Nat.{◌<◌}
 use lib.Dec.{lit<}
+use Rattle.answer.specs.Answers.{refused}
 use Rattle.answer.specs.Numbers.{number_of}
+use Rattle.answer.specs.declared.Answer.{Answer}
+use Rattle.answer.specs.declared.refusal.Refused.{Refused}
 use Rattle.answer.specs.declared.refusal.Refusal.{Refusal}
 use Rattle.answer.specs.declared.refusal.Refusal.TheVariants.{Length, Version, NodeCount, Kind, Span, Level, Range, Card, Value, ListTooShort, Room, Diagram, Subjects, MixedGroup, RuleInOnlyOne, RuleAsRoot, BaseIsRule, HeadersDiffer, TooLarge}
+
+-- the answer of a refusal
+abbrev pub answered : Refused → Answer
+answered r = refused (number_of r.refusal) r.place
 
 -- none is 0, which is the number of a success
 pub number_positive : (refusal : Refusal) → 0 < number_of refusal

@@ -37,7 +37,8 @@ pub(crate) fn recall_near(near: Option<Known>, nodes: Set) -> Option<usize>
     }
 }
 
-// The slot of a set and a field. Any hash is correct: slots store their key.
+// The slot of a set and a field. Any hash is correct: slots store their key. Set and field stay two parameters: the walk changes one where it
+// keeps the other.
 pub(crate) fn slot_of(nodes: Set, field: usize) -> usize
     requires { field ≤ fields }
     ensures { result < 701 }

@@ -6,7 +6,8 @@ ghost use Rattle.entering.specs.Edges.{edges_of, KeptPast};
 // How many edges a node may have.
 pub const MOST_EDGES: usize = 256;
 
-// The last values of the open edges and the places of their children; they are the first `count`.
+// The last values of the open edges and the places of their children; they are the first `count`. An array of these is, by value and without a
+// heap, what the requirements ask for: per level, last values and child places.
 #[derive(Clone, Copy)]
 pub struct Edges {
     pub last: [u16; MOST_EDGES],

@@ -15,7 +15,8 @@ pub const SLOTS: usize = 8192;
 const TRIES: usize = 32;
 
 // The index of a diagram's entries: the place after the last one, and slots that hold places of entries. 0 in a slot holds none:
-// an Option would take twice the room, which is cleared at each build.
+// an Option would take twice the room, which is cleared at each build. No map, since the library has no heap. That a diagram has room from
+// `end` on is a fact about both, so it is in no type.
 #[derive(Drop)]
 pub struct Index {
     pub end: usize,

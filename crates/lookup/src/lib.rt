@@ -64,18 +64,12 @@ fn look_up_checked(
     let numbers = diagram.numbers;
     let values = request.values;
     if let Some(field) = field_fault(&numbers[2..HEADER], &values, 0) {
-        return Err(Refused {
-            refusal: Refusal::Value,
-            place: field,
-        });
+        return Err(Refusal::Value.at(field));
     }
     let place = descend(diagram, values);
     let count = usize::from(numbers[place + 2]);
     if cards.len() < count {
-        return Err(Refused {
-            refusal: Refusal::ListTooShort,
-            place: 0,
-        });
+        return Err(Refusal::ListTooShort.at(0));
     }
     let from = place + 3;
     let to = from + count;
@@ -99,10 +93,7 @@ pub fn look_up(diagram: &[u16], request: Request, cards: &mut [u16]) -> Answer
 {
     clear(cards);
     let Some(sound) = SoundDiagram::check(diagram) else {
-        return Answer::from(Refused {
-            refusal: Refusal::Diagram,
-            place: 0,
-        });
+        return Answer::from(Refusal::Diagram.at(0));
     };
     look_up_sound(sound, request, cards)
 }

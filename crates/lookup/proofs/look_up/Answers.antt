@@ -1,5 +1,6 @@
 -- `lookup::look_up` meets its contract: refusal 12, or what a look-up in a sound diagram answers.
 use Rattle.std.proofs.Common.{sym, ap, ◌∙◌, [], ◌∷◌, length, arith}
+use Rattle.answer.proofs.Numbers.{answered}
 use Rattle.answer.specs.Answers.{zeros}
 use Rattle.answer.proofs.RequestRefusals.{asked_before}
 use Rattle.diagram.specs.Layout.{maximum}
@@ -14,7 +15,7 @@ returns-in_default c =
     let d = c.args.diagram.now in
     let q = c.args.request.values in
     let p = asked_before (diagram_refusal d ∷ []) (maximum d) q 0 (omega arith) (ruled_by d q) 0 (length c.args.cards.now) _
-    c.clear.new.list (unsound d c.in_default.ensures) c.from.ensures c.clear.ensures in
+    c.clear.new.list (unsound d c.in_default.ensures) (c.from.ensures ∙ ap answered c.at.ensures) c.clear.ensures in
     record { value = p.0; cards_after = p.1 }
 
 pub look_up_sound-requires : goal.look_up_sound-requires

@@ -2,6 +2,7 @@
 use Rattle.std.proofs.Common.{◌≡◌, ℕ, List, ◌+◌, ◌≤◌, refl, sym, ap, ◌∙◌, [], length, take, drop, arith}
 use lib.ListN.{length-take, length-drop}
 use lib.Seq.{sets}
+use Rattle.answer.proofs.Numbers.{answered}
 use Rattle.answer.specs.Fields.{fields}
 use Rattle.answer.specs.Answers.{ruled}
 use Rattle.answer.specs.Requests.{field_fault}
@@ -37,7 +38,7 @@ returns-in-Some c =
     let q = c.args.request.values in
     let found = found_one c.in-Some.field _ c.in-Some.ensures in
     let p = asked_over [] (maximum d) q 0 (omega arith) (ruled_by d q) 0 (length c.args.cards.now) _ c.args.cards.now tt
-    c.in-Some.field (found.0 ∙ maxima_fault d q 0 (omega arith)) found.1 refl c.requires in
+    c.in-Some.field (found.0 ∙ maxima_fault d q 0 (omega arith)) found.1 (ap answered c.at.ensures) c.requires in
     record { value = p.0; cards_after = p.1 }
 
 pub descend-place-requires : goal.descend-place-requires
@@ -51,7 +52,7 @@ returns-then-cards-count c =
     let p = asked_short [] (maximum d) q 0 (omega arith) (ruled_by d q) 0 (length c.args.cards.now) _ c.args.cards.now tt
     (field_fault (maximum d) q 0) refl (none_at_fault (goal.at.returns-then-cards-count c).In_default)
     (count_at d c.descend-place.result) (count_there (goal.at.returns-then-cards-count c).After-descend-place)
-    (omega (arith, c.if-cards-count.true)) refl c.requires in
+    (omega (arith, c.if-cards-count.true)) (ap answered c.at-then-cards-count.ensures) c.requires in
     record { value = p.0; cards_after = p.1 }
 
 -- an answer that gives a ruling gives that of its own parts

@@ -1,22 +1,16 @@
 -- `attaching::attaching::attach_cleared` meets its contract, on each way out.
 use Rattle.std.proofs.Common.{◌≡◌, refl, Err, List, ℕ, ap, ◌∙◌, length, arith}
 use Rattle.std.proofs.lemmas.Result.{err_from_is_err_and}
-use Rattle.answer.specs.Answers.{refused, counted, padded}
+use Rattle.answer.specs.Answers.{counted, padded}
 use Rattle.answer.specs.Numbers.{number_of, answer_by}
 use Rattle.answer.specs.Refusals.{first_number, None}
-use Rattle.answer.specs.declared.Answer.{Answer}
-use Rattle.answer.specs.declared.refusal.Refused.{Refused}
-use Rattle.answer.proofs.Numbers.{number_positive}
+use Rattle.answer.proofs.Numbers.{answered, number_positive}
 use Rattle.table.specs.Reading.{Accepted}
 use Rattle.table.proofs.Accepting.{read_refused, counted_accepted}
 use Rattle.attaching.specs.Attached.{attached_bytes, fit_refusals}
 use Rattle.attaching.proofs.AttachAnswers.{base_refused, expansion_refused, fit_refused, none_refused, too_short, written}
 use Rattle.attaching.proofs.attaching.attach_cleared.Goals as goal
 use Rattle.attaching.proofs.attaching.attach_cleared.Goals.{In_ok-base, In_ok-expansion, In_default}
-
--- the answer of a refusal
-abbrev answered : Refused → Answer
-answered r = refused (number_of r.refusal) r.place
 
 base_accepted : (c : In_ok-base) → Accepted c.args.base.now
 base_accepted c = counted_accepted c.args.base.now c.in_ok-base.ensures.value

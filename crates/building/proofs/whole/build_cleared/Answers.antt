@@ -1,11 +1,9 @@
 -- `building::whole::build_cleared` meets its contract, on each way out.
 use Rattle.std.proofs.Common.{◌≡◌, refl, Err, List, ℕ, Option, None, Some, ap, ◌∙◌, length, arith}
 use Rattle.std.proofs.lemmas.Result.{err_from_is_err_and}
-use Rattle.answer.specs.Answers.{refused, counted, zeros}
-use Rattle.answer.specs.Numbers.{number_of, answer_by}
-use Rattle.answer.specs.declared.Answer.{Answer}
-use Rattle.answer.specs.declared.refusal.Refused.{Refused}
-use Rattle.answer.proofs.Numbers.{number_positive}
+use Rattle.answer.specs.Answers.{counted, zeros}
+use Rattle.answer.specs.Numbers.{answer_by}
+use Rattle.answer.proofs.Numbers.{answered, number_positive}
 use Rattle.table.specs.Reading.{Accepted}
 use Rattle.table.proofs.Accepting.{read_refused, counted_accepted}
 use Rattle.building.specs.Walked.{AllWalked}
@@ -15,10 +13,6 @@ use Rattle.building.proofs.WalkedAll.{too_short, walk_full, walk_done}
 use Rattle.building.proofs.BuildAnswers.{unread}
 use Rattle.building.proofs.whole.build_cleared.Goals as goal
 use Rattle.building.proofs.whole.build_cleared.Goals.{In_ok-table}
-
--- the answer of a refusal
-abbrev answered : Refused → Answer
-answered r = refused (number_of r.refusal) r.place
 
 accepted : (c : In_ok-table) → Accepted c.args.bytes.now
 accepted c = counted_accepted c.args.bytes.now c.in_ok-table.ensures.value

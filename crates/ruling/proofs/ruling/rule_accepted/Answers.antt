@@ -1,12 +1,10 @@
 -- `ruling::ruling::rule_accepted` meets its contract, on each way out.
 use Rattle.std.proofs.Common.{◌≡◌, ◌≤◌, [], ◌∷◌, length, get_or, refl, sym, ap, ◌∙◌, arith}
-use Rattle.answer.specs.Answers.{refused, zeros}
+use Rattle.answer.proofs.Numbers.{answered}
+use Rattle.answer.specs.Answers.{zeros}
 use Rattle.answer.specs.Fields.{fields}
-use Rattle.answer.specs.Numbers.{number_of}
 use Rattle.answer.specs.Refusals.{here}
 use Rattle.answer.specs.Requests.{value, field_fault}
-use Rattle.answer.specs.declared.Answer.{Answer}
-use Rattle.answer.specs.declared.refusal.Refused.{Refused}
 use Rattle.answer.proofs.FirstField.{found_one, found_none}
 use Rattle.answer.proofs.RequestRefusals.{asked_before, asked_over, asked_short, asked_ruled}
 use Rattle.answer.proofs.Stored.{stored_cleared}
@@ -17,10 +15,6 @@ use Rattle.targets.specs.Subjects.{subjects_fault}
 use Rattle.ruling.specs.Ruling.{groups_together, subjects_refusal}
 use Rattle.ruling.proofs.ruling.rule_accepted.Goals as goal
 use Rattle.ruling.proofs.ruling.rule_accepted.Goals.{After-subjects_fault, In_default}
-
--- the answer of a refusal
-abbrev answered : Refused → Answer
-answered r = refused (number_of r.refusal) r.place
 
 -- whether 13 applies, by the maxima that were read
 by_subjects : (c : After-subjects_fault) → c.subjects_fault.result ≡ subjects_fault (maximum c.args.table.bytes.now 0) c.args.request.subjects
