@@ -1,20 +1,22 @@
 -- The profile accepts an accepted table exactly where it conforms: each node is a rule or a group, as is asked for where it stands.
 use mathlib.Core.Path.{◌≡◌, refl, sym, ap, ◌∙◌}
-use mathlib.Core.Bool.{Bool, true, false, beq, not, cond, true≢false}
+use mathlib.Core.Bool.{Bool, true, false, beq, not, cond, true≢false, ◌&&◌}
 use mathlib.Core.Logic.{⊎_elim}
 use mathlib.Core.List.{List, ◌++◌}
 use Prim.Native.Nat.{ℕ, ◌+◌, ◌<◌}
 use native.Mathlib.Nat.{eq-zero-or-pos}
 use native.Mathlib.Omega.{arith}
-use borrow.Author.Tests.{ne_eqb, not-false}
+use borrow.Author.Tests.{eq-eqb, ne_eqb, not-false}
+use lib.Dec.{eqb}
 use Rattle.answer.proofs.Below.{every_true, every_each}
 use Rattle.answer.proofs.Settling.{all_join, all_upward}
 use Rattle.answer.proofs.Tests.{and_true, and_false}
 use Rattle.combining.specs.Ways.{any}
 use Rattle.encoding.specs.Layout.{count}
 use Rattle.table.specs.Tree.{is_rule, parent}
-use Rattle.table.specs.Reading.{table_refusals, Accepted}
+use Rattle.table.specs.Reading.{table_refusals, reading, Accepted}
 use Rattle.table.specs.Conformance.{asks_for_rules, rule_asked, node_conforms, conforms}
+use Rattle.table.proofs.Accepting.{found_accepted}
 use Rattle.table.proofs.AcceptedIsWellFormed.{well_formed}
 use Rattle.table.proofs.Tree.{parent_below}
 use Rattle.table.proofs.ParentsAndSpansAgree.{parent_over}
@@ -95,6 +97,11 @@ module _ (t : List ℕ) where
         (all_upward (λ r. r.when ≡ false) (at_node 14 (mixed_group t)) (count t) 0 (λ i a b. (conforming_not_mixed i (omega arith), tt)))
         (all_upward (λ r. r.when ≡ false) (at_node 15 (rule_in_only_one t)) (count t) 0 (λ i a b. (conforming_in_only_one i (omega arith), tt))))
         (as_asked 0 (well_formed t c).some ∙ root_asked, tt))
+
+  -- a table that is read without a refusal and found to conform
+  pub found_standard : {number : ℕ} {s : Bool} → number ≡ (reading t).number → s ≡ (eqb number 0 && conforms t) → number ≡ 0 → s ≡ true → Standard t
+  found_standard {number} n c z e =
+      conforming_standard (found_accepted t n z) (sym (ap (λ b. b && conforms t) (eq-eqb number 0 z)) ∙ sym c ∙ e)
 
 module _ (t : List ℕ) (s : Standard t) where
   accepted : Accepted t

@@ -1,13 +1,13 @@
 -- `standard::standard::accept_standard` meets its contract: a table that is refused without the profile, one that conforms, or what the
 -- profile refuses.
-use Rattle.std.proofs.Common.{sym, ◌∙◌}
+use Rattle.std.proofs.Common.{refl, ap, ◌∙◌}
 use Rattle.std.proofs.lemmas.Result.{err_from_is_err_and}
 use Rattle.table.specs.Reading.{Accepted}
 use Rattle.table.specs.WellFormed.{WellFormed}
 use Rattle.table.proofs.Accepting.{counted_accepted}
 use Rattle.table.proofs.AcceptedIsWellFormed.{well_formed}
 use Rattle.standard.proofs.Accepting.{standard_refused, standard_after, standard_counted}
-use Rattle.standard.proofs.ConformingIsStandard.{conforming_standard}
+use Rattle.standard.proofs.ConformingIsStandard.{found_standard}
 use Rattle.standard.proofs.standard.accept_standard.Goals as goal
 use Rattle.standard.proofs.standard.accept_standard.Goals.{In_ok-conforming, then-not-conforming+in_ok-check_profile, else-not-conforming}
 
@@ -42,5 +42,7 @@ returns-clause-value c =
     elim c.if-not-conforming.branch [
       | then-not-conforming+in_ok-check_profile w ↦ w.in_ok-check_profile.ensures ∙ standard_after t a
       | else-not-conforming w ↦
-          standard_counted t (conforming_standard t a (sym c.in_ok-conforming.ensures.conforming ∙ w.if-not-conforming.false))
+          standard_counted t
+          (found_standard t (ap (λ r. r.number) c.in_ok-conforming.ensures.value) c.in_ok-conforming.ensures.conforming refl
+          w.if-not-conforming.false)
     ]
