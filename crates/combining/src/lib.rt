@@ -65,7 +65,7 @@ const I: u8 = Decision::INDETERMINATE;
 // A table of the ways of combining, one row after another, each by child decision. Which row is which, `row_of` says.
 #[derive(Clone, Copy)]
 pub struct Ways {
-    rows: [[u8; 4]; 27],
+    pub rows: [[u8; 4]; 27],
     pub ghost combines: { Combines rows },
 }
 
