@@ -66,6 +66,7 @@ fn outcome(case: &[u8], given: &Given) -> Result<Outcome, Fault> {
         call: call.name(),
         due: due.map(usize::from),
         answer: fields(answer),
+        // A number of places, which is all of them where none differs.
         place: differs.unwrap_or(places),
         places,
     })

@@ -7,7 +7,8 @@ ghost use Rattle.entering.specs.Edges.{edges_of, KeptPast};
 pub const MOST_EDGES: usize = 256;
 
 // The last values of the open edges and the places of their children; they are the first `count`. An array of these is, by value and without a
-// heap, what the requirements ask for: per level, last values and child places.
+// heap, what the requirements ask for: per level, last values and child places. How many may be open stands in clauses: `extend` asks for fewer
+// than the others.
 #[derive(Clone, Copy)]
 pub struct Edges {
     pub last: [u16; MOST_EDGES],

@@ -14,7 +14,7 @@ use diagram::layout::edges_of;
 use lookup::edge_of;
 use soundness::checked::SoundDiagram;
 
-// Writes the first line, the maxima.
+// Writes the first line, the maxima. Room for a line is a clause and no invariant of a text, since each line uses room up.
 pub fn fields_line(diagram: &[u16], text: &mut Text)
     requires fields_in_bounds { header fields ≤ length diagram.now }
     requires line_fits { text.old.end + most_line ≤ length text.old.bytes.now }
@@ -26,7 +26,7 @@ pub fn fields_line(diagram: &[u16], text: &mut Text)
     text.end_line();
 }
 
-// Writes the only line of a refusal.
+// Writes the only line of a refusal, by its number, as C reads it in an answer.
 pub fn refused_line(number: u8, place: usize, text: &mut Text)
     requires { text.old.end + most_line ≤ length text.old.bytes.now }
     ensures puts { Puts text.old text.new (refused_line number place) }

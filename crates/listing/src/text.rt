@@ -58,8 +58,8 @@ impl<'a> Text<'a> {
         }
     }
 
-    // Writes a number's decimal digits: those of a tenth of it, if it has more than one, then the last. Not
-    // `write!`, which hands back a Result where nothing can fail.
+    // Writes a number's decimal digits: those of a tenth of it, if it has more than one, then the last. Numbers,
+    // words and ranges are written so, and not by `write!`, which hands back a Result where nothing can fail.
     pub(crate) fn put_decimal(&mut self, number: usize)
         requires { HasRoom self.old (decimal number) }
         ensures { Puts self.old self.new (decimal number) }
