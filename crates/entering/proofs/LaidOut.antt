@@ -194,6 +194,14 @@ pub record Sought (d index : List ℕ) (end : ℕ) (e after : List ℕ) (next pl
   pub new : NewAtEnd end (length part) next (Some place)
   pub settles : (es : Entries) → Laid es d index end → Settling (enter (header fields) es part) (length d) after next (Some place)
 
+-- What a search for the entry leaves is what is known of it then, whether it is a terminal or a node.
+pub sought : {d index : List ℕ} {end : ℕ} {e part after : List ℕ} {next place : ℕ} → IsEntry e → part ≡ e → Within (length d) next place →
+    NewAtEnd end (length part) next (Some place) →
+    ((es : Entries) → Laid es d index end → Settling (enter (header fields) es part) (length d) after next (Some place)) →
+    Sought d index end e after next place
+sought {part = part} i same within new settles =
+    record { entry = i; part = part; same = same; within = within; new = new; settles = settles }
+
 -- Entering an entry leaves `now`, whether it is a terminal or a node.
 module _ {d index : List ℕ} {end : ℕ} {e after : List ℕ} {next place : ℕ} (s : Sought d index end e after next place) where
   abbrev Enters : List ℕ → Type 0
