@@ -1,10 +1,12 @@
 -- Laws of numbers stored one after another in a list, as far as it reaches.
-use mathlib.Core.Path.{◌≡◌, ap, ◌∙◌}
+use mathlib.Core.Path.{◌≡◌, refl, sym, ap, ◌∙◌}
 use mathlib.Core.List.{List, [], ◌∷◌, ◌++◌}
-use Prim.Native.Nat.{ℕ, zero, suc, ◌+◌, ◌-◌, ◌≤◌}
+use Prim.Native.Nat.{ℕ, zero, suc, ◌+◌, ◌-◌, ◌≤◌, ◌<◌}
 use native.Mathlib.Omega.{arith}
-use lib.ListN.{length, set, drop, length-replicate}
-use lib.Seq.{sets, sets-eq}
+use lib.ListN.{length, get_or, set, take, drop, length-replicate}
+use lib.Seq.{paste, sets, sets-eq}
+use Rattle.std.proofs.lemmas.List.{append_assoc}
+use Rattle.std.proofs.lemmas.List.Edits.{paste_more, paste_all}
 use Rattle.answer.specs.Answers.{zeros, padded}
 
 -- storing cs and then ds is storing both at once
@@ -30,3 +32,19 @@ stored_padded cs n l =
 -- cards stored in a list that was cleared stand there with zeros after them
 pub stored_cleared : (cs list before : List ℕ) (n : ℕ) → before ≡ zeros n → list ≡ sets before 0 cs → length cs ≤ n → list ≡ padded cs n
 stored_cleared cs list before n z e l = e ∙ ap (λ b. sets b 0 cs) z ∙ stored_padded cs n l
+
+-- where the first i items stand from a place on in what was there before, and one more is stored, or there is none more
+module _ {A : Type 0} (items before list : List A) (at i : ℕ) (so : list ≡ paste before at items i) (fits : at + length items ≤ length before) where
+  pub stored_more : i < length items → (place : ℕ) (item : A) → place ≡ at + i → item ≡ get_or items i item → set list place item ≡ paste before at items (i + 1)
+  stored_more more place item here next =
+      ap (λ n. set list n item) here
+      ∙ ap (λ xs. set xs (at + i) item) so
+      ∙ ap (set (paste before at items i) (at + i)) next
+      ∙ paste_more before at items i item (omega arith) more
+
+  pub stored_all : i ≡ length items → list ≡ sets before at items
+  stored_all all =
+      so
+      ∙ ap (paste before at items) all
+      ∙ paste_all before at items (length items) refl
+      ∙ sym (sets-eq items before at fits ∙ append_assoc (take at before) items _)

@@ -105,10 +105,13 @@ pub fn clear(list: &mut [u16])
     list.fill(0);
 }
 
-// Items into a list that has room for them from a place on.
+// Items into a list that has room for them from a place on. One by one, and not by `copy_from_slice`, with which the archive for C would
+// need `memmove` from outside, beside `memcpy` and `memset`.
 pub fn store<T: Copy>(items: &[T], list: &mut [T], at: usize)
     requires { at + length items.now ≤ length list.old }
     ensures { list.new ≡ sets list.old at items.now }
 {
-    list[at..at + items.len()].copy_from_slice(items);
+    for (i, item) in items.iter().enumerate() {
+        list[at + i] = *item;
+    }
 }

@@ -1,15 +1,11 @@
--- `answer::store` meets its contract: the part that takes the items is all that changed.
-use Rattle.std.proofs.Common.{sym, ◌∙◌, refl, ◌+◌, ◌-◌, length, take}
-use Rattle.std.proofs.lemmas.Slice.{put_mid-paste}
-use Rattle.std.proofs.lemmas.List.Edits.{sets-eq, paste_all}
-use Rattle.std.proofs.lemmas.List.{append_assoc}
+-- `answer::store` meets its contract: the items passed so far stand in the list.
 use native.Mathlib.Omega.{arith}
+use Rattle.answer.proofs.Stored.{stored_more, stored_all}
 use Rattle.answer.proofs.store.Goals as goal
 
+pub loop-i-preserved : goal.loop-i-preserved
+loop-i-preserved g c =
+    stored_more c.args.items.now c.args.list.now c.loop-i.list c.args.at c.loop-i.i c.loop-i.invariant c.requires c.loop-i-test.true _ _ (omega arith) c.index-items-i.is
+
 pub returns : goal.returns
-returns g c =
-    let items = c.args.items.now in
-    let at = c.args.at in
-    put_mid-paste at (at + length items - at) c.args.list.now c.copy_from_slice.new.self items (length items) c.copy_from_slice.ensures.after (omega arith) refl
-    ∙ paste_all c.args.list.now at items (length items) refl
-    ∙ sym (sets-eq items c.args.list.now at c.requires ∙ append_assoc (take at c.args.list.now) items _)
+returns g c = stored_all c.args.items.now c.args.list.now c.loop-i.list c.args.at c.loop-i.i c.loop-i.invariant c.requires (omega (arith, c.loop-i-test.false, c.loop-i.auto.i-end))
