@@ -4,4 +4,4 @@
 pub mod groups;
 mod ruling;
 
-pub use ruling::{for_subjects, rule, rule_accepted};
+pub use ruling::{for_subjects, outcome_for_subjects, rule, rule_accepted};

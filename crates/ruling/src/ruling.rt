@@ -38,8 +38,20 @@ pub fn rule_accepted(
     Ok(root)
 }
 
-// The answer of a ruling on several subjects, with how many they are, or of its refusal.
-pub fn for_subjects(outcome: Result<Ruled, Refused>, subjects: u64) -> Answer
+// The answer with the number of subjects, whichever answer it is. It is made part by part, since a copy of the whole would wait until all
+// parts are in memory.
+pub fn for_subjects(answer: Answer, subjects: u64) -> Answer
+    ensures { result ≡ for_subjects answer (size subjects) }
+{
+    if answer.number != 0 {
+        Answer::refused(answer.number, answer.place)
+    } else {
+        Answer::ruled(answer.decision, answer.count, ones_at(subjects))
+    }
+}
+
+// The answer of a ruling on several subjects, with how many they are, or of its refusal: made straight from the outcome, with no answer between.
+pub fn outcome_for_subjects(outcome: Result<Ruled, Refused>, subjects: u64) -> Answer
     ensures { result ≡ for_subjects (ruled_answer outcome) (size subjects) }
 {
     match outcome {
@@ -67,5 +79,5 @@ pub fn rule(table: &[u8], request: JointRequest, cards: &mut [u16]) -> Answer
 {
     clear(cards);
     let outcome = rule_checked(table, request, cards);
-    for_subjects(outcome, request.subjects)
+    outcome_for_subjects(outcome, request.subjects)
 }

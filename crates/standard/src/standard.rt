@@ -9,7 +9,7 @@ ghost use Rattle.standard.specs.RulingStandard.{ruling_standard, ruled_list_stan
 use crate::profile::check_profile;
 use answer::{Answer, JointRequest, Refused, clear};
 use encoding::layout::count_at;
-use ruling::{for_subjects, rule_accepted};
+use ruling::{outcome_for_subjects, rule_accepted};
 use table::Table;
 use table::reading::read_conformance;
 
@@ -48,5 +48,5 @@ pub fn rule_standard(table: &[u8], request: JointRequest, cards: &mut [u16]) -> 
         Err(refused) => return Answer::from(refused),
     };
     let outcome = rule_accepted(accepted, request, cards);
-    for_subjects(outcome, request.subjects)
+    outcome_for_subjects(outcome, request.subjects)
 }

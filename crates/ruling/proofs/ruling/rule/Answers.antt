@@ -19,7 +19,7 @@ returns c =
     let n = length c.clear.new.list in
     record {
       value =
-          c.for_subjects.ensures ∙ ap (λ a. for_subjects a (size s)) c.rule_checked-outcome.ensures.value
+          c.outcome_for_subjects.ensures ∙ ap (λ a. for_subjects a (size s)) c.rule_checked-outcome.ensures.value
           ∙ subjects_counted (table_refusals t) t s others n (table_numbered t)
           ∙ ap (ruling t s others) c.clear.auto.list;
       cards_after = c.rule_checked-outcome.ensures.cards_after ∙ ap (ruled_list t s others) c.clear.auto.list;

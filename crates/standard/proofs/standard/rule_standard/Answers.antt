@@ -28,9 +28,9 @@ returns c =
     let n = length c.clear.new.list in
     let same = c.in-Ok.ensures.same_bytes in
     let r =
-    asked_then (standard_refusals t) t s others (length c.args.cards.now) c.for_subjects.result c.rule_accepted-outcome.new.cards
+    asked_then (standard_refusals t) t s others (length c.args.cards.now) c.outcome_for_subjects.result c.rule_accepted-outcome.new.cards
     (counted_standard t c.in-Ok.ensures.value) n c.clear.auto.list (ruled_answer c.rule_accepted-outcome.result)
     (c.rule_accepted-outcome.ensures.value ∙ ap (λ u. ruled_or (asked_refusals u s others n) (groups_together u s others) 0) same)
-    c.for_subjects.ensures
+    c.outcome_for_subjects.ensures
     (c.rule_accepted-outcome.ensures.cards_after ∙ ap (λ u. listed_after (asked_refusals u s others n) u s others n) same) in
     record { value = r.0; cards_after = r.1 }
