@@ -1,7 +1,7 @@
 // The open edges of a level.
-ghost use Rattle.std.specs.Prelude.{◌≡◌, ◌+◌, ◌≤◌, ◌<◌};
+ghost use Rattle.std.specs.Prelude.{◌≡◌, ◌+◌, ◌≤◌, ◌<◌, length};
 ghost use Rattle.diagram.specs.Walk.{extend};
-ghost use Rattle.entering.specs.Edges.{edges_of, KeptPast};
+ghost use Rattle.entering.specs.Edges.{edges_in, edges_of, KeptPast};
 
 // How many edges a node may have.
 pub const MOST_EDGES: usize = 256;
@@ -42,12 +42,23 @@ impl Edges {
         ensures result_after { edges_of self.new ≡ extend (edges_of self.old) value place }
         ensures kept_past { KeptPast self.new.count self.old.last self.new.last × KeptPast self.new.count self.old.child self.new.child }
     {
-        if 0 < self.count && self.child[self.count - 1] == place {
-            self.last[self.count - 1] = value;
-            return;
-        }
-        self.last[self.count] = value;
-        self.child[self.count] = place;
-        self.count += 1;
+        self.count = extend(&mut self.last, &mut self.child, self.count, value, place);
     }
+}
+
+// One more value of a level, whose child is at a place: it shares the last edge where that has the same child. How many edges there are then.
+// The lists of a level may have any length, so that they are no `Edges` here.
+pub fn extend(last: &mut [u16], child: &mut [u16], edges: usize, value: u16, place: u16) -> usize
+    requires { (edges < length last.old) × (edges < length child.old) × (edges < 256) }
+    ensures upper_bound { result ≤ edges + 1 }
+    ensures result_after { edges_in last.new child.new result ≡ extend (edges_in last.old child.old edges) value place }
+    ensures kept_past { KeptPast result last.old last.new × KeptPast result child.old child.new }
+{
+    if 0 < edges && child[edges - 1] == place {
+        last[edges - 1] = value;
+        return edges;
+    }
+    last[edges] = value;
+    child[edges] = place;
+    edges + 1
 }

@@ -11,7 +11,7 @@ use crate::is_sound;
 #[derive(Clone, Copy)]
 pub struct SoundDiagram<'a> {
     pub numbers: &'a [u16],
-    ghost sound: { yes? (sound? fields numbers.now) ≡ true },
+    pub ghost sound: { yes? (sound? fields numbers.now) ≡ true },
 }
 
 impl<'a> SoundDiagram<'a> {
