@@ -50,13 +50,13 @@ impl Call {
         } else if text == " read_standard" {
             Ok((Call::ReadStandard, 0))
         } else if let Some(room) = text.strip_prefix(" build room") {
-            let [room] = exactly::<1>(decimal(alloc, room)?)?;
+            let [room] = exactly::<1>(decimal(alloc, room, 1)?)?;
             Ok((Call::Build, usize::from(room)))
         } else if let Some(room) = text.strip_prefix(" attach room") {
-            let [room] = exactly::<1>(decimal(alloc, room)?)?;
+            let [room] = exactly::<1>(decimal(alloc, room, 1)?)?;
             Ok((Call::Attach, usize::from(room)))
         } else if let Some(asked) = text.strip_prefix(" look_up") {
-            let [subject, resource, action, places] = exactly::<4>(lent_list(alloc, asked)?)?;
+            let [subject, resource, action, places] = exactly::<4>(lent_list(alloc, asked, 4)?)?;
             let values = [subject, resource, action];
             Ok((Call::LookUp(Request { values }), usize::from(places)))
         } else {
@@ -89,9 +89,9 @@ impl Call {
 fn ruling(alloc: Global, text: &str) -> Result<(Call, usize), Fault> {
     let (name, text) = text.split_once('{').ok_or(Fault::NotUnderstood)?;
     let (set, text) = text.split_once('}').ok_or(Fault::NotUnderstood)?;
-    let [resource, action, places] = exactly::<3>(lent_list(alloc, text)?)?;
+    let [resource, action, places] = exactly::<3>(lent_list(alloc, text, 3)?)?;
     let request = JointRequest {
-        subjects: subjects(&decimal(alloc, ended(set))?)?,
+        subjects: subjects(&decimal(alloc, ended(set), MOST)?)?,
         others: [resource, action],
     };
     let call = match ended(name) {
@@ -104,9 +104,6 @@ fn ruling(alloc: Global, text: &str) -> Result<(Call, usize), Fault> {
 
 // A set of subjects, subject k as bit k.
 fn subjects(list: &[u16]) -> Result<u64, Fault> {
-    if list.len() > MOST {
-        return Err(Fault::NotUnderstood);
-    }
     let mut set = 0u64;
     for subject in list {
         set |= 1u64
@@ -116,11 +113,11 @@ fn subjects(list: &[u16]) -> Result<u64, Fault> {
     Ok(set)
 }
 
-// The numbers before and after the word `list`.
-fn lent_list(alloc: Global, text: &str) -> Result<Vec<u16>, Fault> {
+// The numbers before and after the word `list`, if there are no more than `most` on either side.
+fn lent_list(alloc: Global, text: &str, most: usize) -> Result<Vec<u16>, Fault> {
     let (asked, places) = text.split_once("list").ok_or(Fault::NotUnderstood)?;
-    let mut list = decimal(alloc, asked)?;
-    list.extend_from_slice(&decimal(alloc, places)?)?;
+    let mut list = decimal(alloc, asked, most)?;
+    list.extend_from_slice(&decimal(alloc, places, most)?)?;
     Ok(list)
 }
 

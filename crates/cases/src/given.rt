@@ -34,12 +34,12 @@ impl Given {
     pub(crate) fn take(&mut self, line: &[u8]) -> Result<(), Fault> {
         let line = ended(text(line)?);
         if let Some(bytes) = line.strip_prefix("table ") {
-            self.table = listed(numbers(self.alloc, bytes, 16)?)?;
+            self.table = Some(numbers(self.alloc, bytes, 16, PLACES)?);
         } else if let Some(bytes) = line.strip_prefix("expansion ") {
-            self.expansion = listed(numbers(self.alloc, bytes, 16)?)?;
+            self.expansion = Some(numbers(self.alloc, bytes, 16, PLACES)?);
         } else {
             let places = line.strip_prefix("diagram ").ok_or(Fault::NotUnderstood)?;
-            self.diagram = listed(decimal(self.alloc, places)?)?;
+            self.diagram = Some(decimal(self.alloc, places, PLACES)?);
         }
         Ok(())
     }
@@ -57,14 +57,6 @@ impl Given {
         list.truncate(size);
         Ok(list)
     }
-}
-
-// The numbers of a line, if there is room for them.
-fn listed(list: Vec<u16>) -> Result<Option<Vec<u16>>, Fault> {
-    if list.len() > PLACES {
-        return Err(Fault::NotUnderstood);
-    }
-    Ok(Some(list))
 }
 
 // The numbers of a line as bytes, changed. What is cut off has to be bytes, too.
@@ -85,17 +77,19 @@ fn changed(
 ) -> Result<(Vec<u16>, usize), Fault> {
     let line = line.as_ref().ok_or(Fault::NotUnderstood)?;
     let resized = changes.strip_prefix(" length");
-    let said = decimal(alloc, resized.unwrap_or(changes))?;
+    let said = decimal(alloc, resized.unwrap_or(changes), CHANGES)?;
     let (size, pairs) = match (resized, said.as_slice()) {
         (None, pairs) => (line.len(), pairs),
         (Some(_), [length, pairs @ ..]) => (usize::from(*length), pairs),
         (Some(_), []) => return Err(Fault::NotUnderstood),
     };
-    if line.len() > room || size > room || said.len() > CHANGES {
+    if line.len() > room || size > room {
         return Err(Fault::NotUnderstood);
     }
-    let mut list = line.clone()?;
-    list.resize(size.max(line.len()), 0)?;
+    let most = size.max(line.len());
+    let mut list = Vec::with_capacity(alloc, most)?;
+    list.extend_from_slice(line)?;
+    list.resize(most, 0)?;
     let left = list
         .as_mut_slice()
         .get_mut(..size)

@@ -22,17 +22,25 @@ impl<T: Drop> From<AllocFailed<T>> for Fault {
     }
 }
 
-// The decimal numbers of a text.
-pub(crate) fn decimal(alloc: Global, text: &str) -> Result<Vec<u16>, Fault> {
-    numbers(alloc, text, 10)
+// The decimal numbers of a text, if there are no more than `most`.
+pub(crate) fn decimal(alloc: Global, text: &str, most: usize) -> Result<Vec<u16>, Fault> {
+    numbers(alloc, text, 10, most)
 }
 
-// The numbers of a text, with spaces and commas between.
-pub(crate) fn numbers(alloc: Global, text: &str, radix: u32) -> Result<Vec<u16>, Fault>
+// The numbers of a text, with spaces and commas between, if there are no more than `most`. They are counted first, so that a list takes no
+// more memory than its numbers do.
+pub(crate) fn numbers(alloc: Global, text: &str, radix: u32, most: usize) -> Result<Vec<u16>, Fault>
     requires at_least_binary { 2 ≤ radix }
     requires has_digits { radix ≤ 36 }
 {
-    let mut numbers = Vec::new(alloc);
+    let count = text
+        .split([' ', ','])
+        .filter(|word| !word.is_empty())
+        .count();
+    if most < count {
+        return Err(Fault::NotUnderstood);
+    }
+    let mut numbers = Vec::with_capacity(alloc, count)?;
     for word in text.split([' ', ',']).filter(|word| !word.is_empty()) {
         numbers.push(number(word, radix)?)?;
     }

@@ -41,16 +41,18 @@ fn take(rt: &impl Print, line: &[u8], given: &mut Given, tally: &mut Tally) -> i
 // A case without its name, `CALL; CHANGES; ANSWER; WRITTEN`: its call is made.
 fn outcome(case: &[u8], given: &Given) -> Result<Outcome, Fault> {
     let alloc = given.alloc;
-    let parts: Vec<&str> = text(case)?.split(';').map(ended).collect(alloc)?;
+    // A fifth part, if there is more than four, is the rest: no more are kept.
+    let parts: Vec<&str> = text(case)?.splitn(5, ';').map(ended).collect(alloc)?;
     let [call, changes, answer, written] = *parts.as_slice() else {
         return Err(Fault::NotUnderstood);
     };
     let (call, places) = Call::parse(alloc, call)?;
-    let due = exactly(decimal(alloc, answer)?)?;
-    let mut written = decimal(alloc, written)?;
-    if places > PLACES || written.len() > places {
+    let due = exactly(decimal(alloc, answer, 5)?)?;
+    if places > PLACES {
         return Err(Fault::NotUnderstood);
     }
+    let mut written = decimal(alloc, written, places)?;
+    written.reserve_exact(places.saturating_sub(written.len()))?;
     written.resize(places, 0)?;
     // What is lent holds a mark at each place, another number than 0 and than the one that is due there.
     let mut lent: Vec<u16> = written
