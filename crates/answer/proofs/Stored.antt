@@ -1,4 +1,4 @@
--- Laws of numbers stored one after another in a list, as far as it reaches.
+-- Laws of items stored one after another in a list, as far as it reaches.
 use mathlib.Core.Path.{◌≡◌, refl, sym, ap, ◌∙◌}
 use mathlib.Core.List.{List, [], ◌∷◌, ◌++◌}
 use Prim.Native.Nat.{ℕ, zero, suc, ◌+◌, ◌-◌, ◌≤◌, ◌<◌}
@@ -33,7 +33,7 @@ stored_padded cs n l =
 pub stored_cleared : (cs list before : List ℕ) (n : ℕ) → before ≡ zeros n → list ≡ sets before 0 cs → length cs ≤ n → list ≡ padded cs n
 stored_cleared cs list before n z e l = e ∙ ap (λ b. sets b 0 cs) z ∙ stored_padded cs n l
 
--- where the first i items stand from a place on in what was there before, and one more is stored, or there is none more
+-- where the first i items are stored from a place on: one more may be, or they are all
 module _ {A : Type 0} (items before list : List A) (at i : ℕ) (so : list ≡ paste before at items i) (fits : at + length items ≤ length before) where
   pub stored_more : i < length items → (place : ℕ) (item : A) → place ≡ at + i → item ≡ get_or items i item → set list place item ≡ paste before at items (i + 1)
   stored_more more place item here next =

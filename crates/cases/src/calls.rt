@@ -1,6 +1,6 @@
 // The calls that a case can make, and what the library answers to them.
 use crate::given::{BYTES, Given};
-use crate::numbers::{Fault, decimal, ended, exactly, to_bytes};
+use crate::numbers::{Fault, decimal, decimals, ended, exactly, to_bytes};
 use answer::{Answer, JointRequest, Request};
 use std::alloc::Global;
 
@@ -50,13 +50,13 @@ impl Call {
         } else if text == " read_standard" {
             Ok((Call::ReadStandard, 0))
         } else if let Some(room) = text.strip_prefix(" build room") {
-            let [room] = exactly::<1>(decimal(alloc, room, 1)?)?;
+            let [room] = decimals::<1>(alloc, room)?;
             Ok((Call::Build, usize::from(room)))
         } else if let Some(room) = text.strip_prefix(" attach room") {
-            let [room] = exactly::<1>(decimal(alloc, room, 1)?)?;
+            let [room] = decimals::<1>(alloc, room)?;
             Ok((Call::Attach, usize::from(room)))
         } else if let Some(asked) = text.strip_prefix(" look_up") {
-            let [subject, resource, action, places] = exactly::<4>(lent_list(alloc, asked, 4)?)?;
+            let [subject, resource, action, places] = lent_list::<4>(alloc, asked)?;
             let values = [subject, resource, action];
             Ok((Call::LookUp(Request { values }), usize::from(places)))
         } else {
@@ -89,7 +89,7 @@ impl Call {
 fn ruling(alloc: Global, text: &str) -> Result<(Call, usize), Fault> {
     let (name, text) = text.split_once('{').ok_or(Fault::NotUnderstood)?;
     let (set, text) = text.split_once('}').ok_or(Fault::NotUnderstood)?;
-    let [resource, action, places] = exactly::<3>(lent_list(alloc, text, 3)?)?;
+    let [resource, action, places] = lent_list::<3>(alloc, text)?;
     let request = JointRequest {
         subjects: subjects(&decimal(alloc, ended(set), MOST)?)?,
         others: [resource, action],
@@ -113,12 +113,12 @@ fn subjects(list: &[u16]) -> Result<u64, Fault> {
     Ok(set)
 }
 
-// The numbers before and after the word `list`, if there are no more than `most` on either side.
-fn lent_list(alloc: Global, text: &str, most: usize) -> Result<Vec<u16>, Fault> {
+// The numbers before and after the word `list`, so many in all.
+fn lent_list<const N: usize>(alloc: Global, text: &str) -> Result<[u16; N], Fault> {
     let (asked, places) = text.split_once("list").ok_or(Fault::NotUnderstood)?;
-    let mut list = decimal(alloc, asked, most)?;
-    list.extend_from_slice(&decimal(alloc, places, most)?)?;
-    Ok(list)
+    let mut list = decimal(alloc, asked, N)?;
+    list.extend_from_slice(&decimal(alloc, places, N)?)?;
+    exactly(list)
 }
 
 // The expansion is attached to a base. The numbers of what is lent are lent as bytes.

@@ -33,15 +33,13 @@ pub(crate) fn numbers(alloc: Global, text: &str, radix: u32, most: usize) -> Res
     requires at_least_binary { 2 ≤ radix }
     requires has_digits { radix ≤ 36 }
 {
-    let count = text
-        .split([' ', ','])
-        .filter(|word| !word.is_empty())
-        .count();
+    let words = text.split([' ', ',']).filter(|word| !word.is_empty());
+    let count = words.clone()?.count();
     if most < count {
         return Err(Fault::NotUnderstood);
     }
     let mut numbers = Vec::with_capacity(alloc, count)?;
-    for word in text.split([' ', ',']).filter(|word| !word.is_empty()) {
+    for word in words {
         numbers.push(number(word, radix)?)?;
     }
     Ok(numbers)
@@ -56,6 +54,11 @@ fn number(word: &str, radix: u32) -> Result<u16, Fault>
         return Err(Fault::NotUnderstood);
     }
     u16::from_str_radix(word, radix).map_err(|_| Fault::NotUnderstood)
+}
+
+// So many decimal numbers, which are all that a text says.
+pub(crate) fn decimals<const N: usize>(alloc: Global, text: &str) -> Result<[u16; N], Fault> {
+    exactly(decimal(alloc, text, N)?)
 }
 
 // So many numbers.

@@ -1,7 +1,7 @@
 // The lines of the input, one after another.
 use crate::calls::Call;
 use crate::given::{Given, PLACES};
-use crate::numbers::{Fault, decimal, ended, exactly, text};
+use crate::numbers::{Fault, decimal, decimals, ended, text};
 use crate::tally::{Outcome, Tally};
 use answer::Answer;
 use std::alloc::{AllocError, Global};
@@ -41,13 +41,13 @@ fn take(rt: &impl Print, line: &[u8], given: &mut Given, tally: &mut Tally) -> i
 // A case without its name, `CALL; CHANGES; ANSWER; WRITTEN`: its call is made.
 fn outcome(case: &[u8], given: &Given) -> Result<Outcome, Fault> {
     let alloc = given.alloc;
-    // A fifth part, if there is more than four, is the rest: no more are kept.
+    // Where there are more than four, the fifth is all the rest, so that no more than five are kept.
     let parts: Vec<&str> = text(case)?.splitn(5, ';').map(ended).collect(alloc)?;
     let [call, changes, answer, written] = *parts.as_slice() else {
         return Err(Fault::NotUnderstood);
     };
     let (call, places) = Call::parse(alloc, call)?;
-    let due = exactly(decimal(alloc, answer, 5)?)?;
+    let due: [u16; 5] = decimals(alloc, answer)?;
     if places > PLACES {
         return Err(Fault::NotUnderstood);
     }
